@@ -12,10 +12,9 @@ use Rattle.plan_model.specs.declared.effects.Effect.{Effect, roll-Effect}
 use Rattle.plan_model.specs.declared.effects.Effect.TheOpen.{Effect-F}
 use Rattle.plan_model.specs.declared.effects.Effect.TheVariants as E
 use Rattle.plan_model.specs.declared.schemas.ActionSchema.{ActionSchema}
-use Rattle.plan_model.specs.declared.values.Pddl.{Pddl}
 use Rattle.ground_state.specs.declared.need.Need.{Need}
 use Rattle.ground_state.specs.Room.{EachFits, fits_step, fits, effect_fits_step, effect_fits}
-use Rattle.ground_state.specs.Needs.{IsWithin, Allows, IsEnough, IsEnoughForEffect, HasRoom, IsEnoughForAll}
+use Rattle.ground_state.specs.Needs.{IsWithin, Allows, IsEnough, IsEnoughForEffect, HasRoom, IsEnoughForAction, IsEnoughWithin}
 use Rattle.ground_state.proofs.Lists.{take_next}
 use Rattle.ground_state.proofs.RoomEquations.{fits-roll, effect-roll}
 
@@ -25,10 +24,6 @@ IsEnoughForEach n fs = Allows (λ room arity. EachFits (fits room arity) fs n)
 
 abbrev pub IsEnoughForEachEffect : ℕ → List Effect → Need → Type 0
 IsEnoughForEachEffect n es = Allows (λ room arity. EachFits (effect_fits room arity) es n)
-
--- enough for the action
-abbrev pub IsEnoughForAction : ActionSchema → Need → Type 0
-IsEnoughForAction a = Allows (λ room arity. HasRoom room arity a)
 
 -- what follows of two facts on what was made
 pub if_both : {X M : Type 0} (made : Result X M) (P Q R : X → Type 0) → ((x : X) → P x → Q x → R x) → IfOk made P → IfOk made Q → IfOk made R
@@ -123,16 +118,23 @@ enough-Action a xs inside g i least less need l v w h k room arity d r =
       eff = subst (effect_fits room arity a.eff) n (k room arity d r);
     }
 
--- the actions so far and one more
-pub actions_more : (xs : List ActionSchema) (i : ℕ) (a : ActionSchema) (less need : Need) → i < length xs → a ≡ get_or xs i a → IsWithin less need
-    → Allows (λ room arity. (b : ActionSchema) → Contains (take i xs) b → HasRoom room arity b) less → IsEnoughForAction a need → Allows (λ room arity. (b : ActionSchema) → Contains (take (i + 1) xs) b → HasRoom room arity b) need
-actions_more xs i a less need l e w h g room arity d r b c =
+-- the same of a condition on parameters
+pub enough-Condition : (ps : List Param) (f : Formula) (inside : ℕ) → inside ≡ 0 + length ps → (least need : Need) → inside ≤ least.depth → IsWithin least need → IsEnough inside f need → IsEnoughWithin ps f need
+enough-Condition ps f inside i least need l w h room arity d r =
+    let x = w.0 in
+    let n : inside ≡ length ps = omega (arith, i) in
+    record { depth = omega arith; condition = subst (fits room arity f) n (h room arity d r) }
+
+-- enough for those so far, and for one more
+pub all_more : {X : Type 0} (P : X → ℕ → ℕ → Type 0) (xs : List X) (i : ℕ) (a : X) (less need : Need) → i < length xs → a ≡ get_or xs i a → IsWithin less need
+    → Allows (λ room arity. (b : X) → Contains (take i xs) b → P b room arity) less → Allows (P a) need → Allows (λ room arity. (b : X) → Contains (take (i + 1) xs) b → P b room arity) need
+all_more P xs i a less need l e w h g room arity d r b c =
     let v = w.0 in
     let u = w.1 in
     elim (Contains-push_cases (take i xs) a b (subst (λ ys. Contains ys b) (take_next xs i a l e) c)) [
       | inl k ↦ h room arity (omega arith) (omega arith) b k
-      | inr k ↦ subst (HasRoom room arity) k (g room arity d r)
+      | inr k ↦ subst (λ x. P x room arity) k (g room arity d r)
     ]
 
-pub enough_for_all : (p : Pddl) (i : ℕ) (need : Need) → length p.actions ≤ i → IsEnough 0 p.goal need → Allows (λ room arity. (b : ActionSchema) → Contains (take i p.actions) b → HasRoom room arity b) need → IsEnoughForAll p need
-enough_for_all p i need l g h room arity d r = record { goal = g room arity d r; actions = λ b c. h room arity d r b (subst (λ ys. Contains ys b) (sym (take_all i p.actions l)) c) }
+pub all_of : {X : Type 0} (P : X → ℕ → ℕ → Type 0) (xs : List X) (i : ℕ) (need : Need) → length xs ≤ i → Allows (λ room arity. (b : X) → Contains (take i xs) b → P b room arity) need → Allows (λ room arity. (b : X) → Contains xs b → P b room arity) need
+all_of P xs i need l h room arity d r b c = h room arity d r b (subst (λ ys. Contains ys b) (sym (take_all i xs l)) c)

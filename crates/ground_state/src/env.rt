@@ -38,15 +38,22 @@ impl Env {
         Ok(Env { values, args })
     }
 
+    /// The objects of the variables in force.
+    pub fn objects(&self) -> &[u32]
+        ensures { result.now ≡ (frame self.now).objects }
+    {
+        self.values.as_slice()
+    }
+
     /// Takes all variables away.
-    pub(crate) fn clear(&mut self)
+    pub fn clear(&mut self)
         ensures { frame self.new ≡ cleared (frame self.old) }
     {
         self.values.clear();
     }
 
     /// Puts one more variable in force.
-    pub(crate) fn push(&mut self, object: u32)
+    pub fn push(&mut self, object: u32)
         requires { length (frame self.old).objects < (frame self.old).room }
         ensures { frame self.new ≡ pushed (frame self.old) object }
     {
@@ -61,7 +68,7 @@ impl Env {
     }
 
     /// The object that the term stands for: a variable that is not in force stands for object 0.
-    pub(crate) fn value(&self, term: Term) -> u32
+    pub fn value(&self, term: Term) -> u32
         ensures { result ≡ value_of (frame self.now).objects term }
     {
         match term {

@@ -1,9 +1,8 @@
 ghost use Rattle.std.specs.Prelude.{◌≡◌, ◌∷◌, OnOk};
-ghost use Rattle.problem_index.specs.Domains.{IsDomainOf};
 ghost use Rattle.problem_index.specs.Kinds.{IsWorld};
 ghost use Rattle.ground_state.specs.Frames.{frame};
 ghost use Rattle.ground_state.specs.Room.{EffectFits, AllEffectsFit, EffectFitsWithin};
-ghost use Rattle.ground_state.specs.Clauses.{Gets, GetsEach, GetsWithin};
+ghost use Rattle.ground_state.specs.Clauses.{IsDomainIn, Gets, GetsEach, GetsWithin};
 
 use crate::atom_list::AtomLists;
 use crate::env::Env;
@@ -27,7 +26,7 @@ pub(crate) fn gather(
 ) -> Result<(), Memory>
     requires world { IsWorld world.now }
     requires room { EffectFits (frame env.old) eff.now }
-    ensures gathered { OnOk result (Gets world.now.types.now world.now.objects.now s.now eff.now env.old into.old into.new) }
+    ensures gathered { OnOk result (Gets world.now s.now eff.now env.old into.old into.new) }
     ensures kept { frame env.new ≡ frame env.old }
 {
     match eff {
@@ -58,7 +57,7 @@ fn gather_each(
 ) -> Result<(), Memory>
     requires world { IsWorld world.now }
     requires room { AllEffectsFit (frame env.old) parts.now }
-    ensures gathered { OnOk result (GetsEach world.now.types.now world.now.objects.now s.now parts.now env.old into.old into.new) }
+    ensures gathered { OnOk result (GetsEach world.now s.now parts.now env.old into.old into.new) }
     ensures kept { frame env.new ≡ frame env.old }
 {
     for part in parts {
@@ -81,7 +80,7 @@ fn gather_within(
     requires world { IsWorld world.now }
     requires room { EffectFitsWithin (frame env.old) params.now body.now }
     ensures gathered { OnOk result
-        (GetsWithin world.now.types.now world.now.objects.now s.now params.now body.now env.old into.old into.new) }
+        (GetsWithin world.now s.now params.now body.now env.old into.old into.new) }
     ensures kept { frame env.new ≡ frame env.old }
 {
     let Some((param, rest)) = params.split_first() else {
@@ -111,7 +110,7 @@ fn gather_in_parts(
     requires world { IsWorld world.now }
     requires room { EffectFitsWithin (frame env.old) (param.now ∷ rest.now) body.now }
     ensures gathered { OnOk result
-        (GetsWithin world.now.types.now world.now.objects.now s.now (param.now ∷ rest.now) body.now env.old into.old into.new) }
+        (GetsWithin world.now s.now (param.now ∷ rest.now) body.now env.old into.old into.new) }
     ensures kept { frame env.new ≡ frame env.old }
 {
     let parts = Parts::new(world.types, param.ty);
@@ -134,10 +133,10 @@ fn gather_of(
     into: &mut AtomLists,
 ) -> Result<(), Memory>
     requires world { IsWorld world.now }
-    requires domain { IsDomainOf world.now.types.now world.now.objects.now param.now.ty domain.now }
+    requires domain { IsDomainIn world.now param.now.ty domain.now }
     requires room { EffectFitsWithin (frame env.old) (param.now ∷ rest.now) body.now }
     ensures gathered { OnOk result
-        (GetsWithin world.now.types.now world.now.objects.now s.now (param.now ∷ rest.now) body.now env.old into.old into.new) }
+        (GetsWithin world.now s.now (param.now ∷ rest.now) body.now env.old into.old into.new) }
     ensures kept { frame env.new ≡ frame env.old }
 {
     for place in 0..domain.len() {

@@ -9,7 +9,9 @@
 //! A state has numbers of predicates and objects alone, and the calls take the types and the objects that these are
 //! numbers of. So they serve a printed problem, a source problem and a compiled one alike: `State::new` of the value's
 //! `init`, an `Env` with the objects of an action's or a method's parameters, `holds` for a condition or the goal, and
-//! `State::apply` for an action's effect.
+//! `State::apply` for an action's effect. Over a `World` of `problem_index`, which knows the objects of each type, `is_true` and
+//! `State::apply_in` do the same quickly, `fill` puts the objects of words in force, and `Need::of_compiled` is the room that an
+//! environment needs for all conditions and effects of a compiled problem.
 #![tactic(auto)]
 
 mod arguments;
@@ -28,9 +30,11 @@ mod step;
 mod truth;
 mod verdict;
 
+pub use arguments::fill;
 pub use env::Env;
+pub use need::Need;
 pub use plan_model::FailWhy;
 pub use run::{Run, run_plan};
 pub use state::State;
-pub use truth::holds;
+pub use truth::{holds, is_true};
 pub use verdict::Verdict;

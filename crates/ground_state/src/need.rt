@@ -2,7 +2,7 @@ ghost use Rattle.std.specs.Prelude.{◌≡◌, ◌+◌, ◌≤◌, length, IfOk}
 ghost use Rattle.ground_state.specs.Needs as spec;
 
 use htn_base::{Memory, number};
-use plan_model::{Effect, Formula, Param, Pddl};
+use plan_model::{ActionSchema, Compiled, Effect, Formula, MethodPlan, Param, Pddl};
 
 /// The room that an environment needs: for so many variables in force, and for so many arguments of an atom. Where one
 /// is 2^32 or more, that is answered as want of memory.
@@ -18,15 +18,62 @@ impl Need {
         ensures { IfOk result (spec.IsEnoughForAll p.now) }
     {
         let none = Need { depth: 0, arity: 0 };
-        let mut need = none.with_formula(&p.goal, 0)?;
-        for action in p.actions.as_slice() {
-            let inside = within(0, action.params.as_slice())?;
-            need = need
-                .at_least(inside, 0)
-                .with_formula(&action.pre, inside)?
-                .with_effect(&action.eff, inside)?;
+        none.with_formula(&p.goal, 0)?
+            .with_actions(p.actions.as_slice())
+    }
+
+    /// The room that all actions, the preconditions of all methods and the goal of the compiled problem need.
+    pub fn of_compiled(compiled: &Compiled) -> Result<Need, Memory>
+        ensures { IfOk result (spec.IsEnoughForCompiled compiled.now) }
+    {
+        let none = Need { depth: 0, arity: 0 };
+        none.with_formula(&compiled.hddl.goal, 0)?
+            .with_actions(compiled.hddl.actions.as_slice())?
+            .with_methods(compiled.methods.as_slice())
+    }
+
+    /// With the room that the actions need.
+    fn with_actions(self, actions: &[ActionSchema]) -> Result<Need, Memory>
+        ensures enough { IfOk result (spec.IsEnoughForEachAction actions.now) }
+        ensures more { IfOk result (spec.IsWithin self) }
+    {
+        let mut need = self;
+        for action in actions {
+            need = need.with_action(action)?;
         }
         Ok(need)
+    }
+
+    /// With the room that the preconditions of the methods need.
+    fn with_methods(self, methods: &[MethodPlan]) -> Result<Need, Memory>
+        ensures enough { IfOk result (spec.IsEnoughForEachMethod methods.now) }
+        ensures more { IfOk result (spec.IsWithin self) }
+    {
+        let mut need = self;
+        for plan in methods {
+            need = need.with_condition(plan.schema.params.as_slice(), &plan.schema.pre)?;
+        }
+        Ok(need)
+    }
+
+    /// With the room that the action needs.
+    fn with_action(self, action: &ActionSchema) -> Result<Need, Memory>
+        ensures enough { IfOk result (spec.IsEnoughForAction action.now) }
+        ensures more { IfOk result (spec.IsWithin self) }
+    {
+        let inside = within(0, action.params.as_slice())?;
+        self.at_least(inside, 0)
+            .with_formula(&action.pre, inside)?
+            .with_effect(&action.eff, inside)
+    }
+
+    /// With the room that these parameters and a condition on them need.
+    fn with_condition(self, params: &[Param], condition: &Formula) -> Result<Need, Memory>
+        ensures enough { IfOk result (spec.IsEnoughWithin params.now condition.now) }
+        ensures more { IfOk result (spec.IsWithin self) }
+    {
+        let inside = within(0, params)?;
+        self.at_least(inside, 0).with_formula(condition, inside)
     }
 
     /// With the room that the formula needs where so many variables are in force.

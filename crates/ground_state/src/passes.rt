@@ -1,13 +1,13 @@
 ghost use Rattle.std.specs.Prelude.{◌≡◌, ◌≤◌, ◌∷◌, length, MatchBool, OnOk, OnErr};
 ghost use Rattle.std.specs.Bool.{OnTrue};
-ghost use Rattle.problem_index.specs.Domains.{IsBelow, IsDomainOf};
+ghost use Rattle.problem_index.specs.Domains.{IsBelow};
 ghost use Rattle.problem_index.specs.Kinds.{IsWorld};
 ghost use Rattle.plan_model.specs.plan_meaning.Truth.{ground};
 ghost use Rattle.ground_state.specs.Frames.{frame};
 ghost use Rattle.ground_state.specs.Room.{EffectFits, AllEffectsFit, EffectFitsWithin};
 ghost use Rattle.ground_state.specs.States.{HasSameNotes};
 ghost use Rattle.ground_state.specs.Passes as spec;
-ghost use Rattle.ground_state.specs.Clauses.{HasPassed, HasPassedEach, HasPassedWithin};
+ghost use Rattle.ground_state.specs.Clauses.{IsDomainIn, HasPassed, HasPassedEach, HasPassedWithin};
 
 use crate::env::Env;
 use crate::state::State;
@@ -68,7 +68,7 @@ impl State {
         requires world { IsWorld world.now }
         requires room { EffectFits (frame env.old) eff.now }
         requires plain { spec.IsPlain (frame env.old) eff.now }
-        ensures passed { OnOk result (HasPassed world.now.types.now world.now.objects.now pass eff.now env.old self.old self.new) }
+        ensures passed { OnOk result (HasPassed world.now pass eff.now env.old self.old self.new) }
         ensures unchanged { OnErr result (spec.HasOnlyEntered pass self.old self.new) }
         ensures kept { frame env.new ≡ frame env.old }
     {
@@ -100,7 +100,7 @@ impl State {
         requires world { IsWorld world.now }
         requires room { AllEffectsFit (frame env.old) parts.now }
         requires plain { spec.ArePlain (frame env.old) parts.now }
-        ensures passed { OnOk result (HasPassedEach world.now.types.now world.now.objects.now pass parts.now env.old self.old self.new) }
+        ensures passed { OnOk result (HasPassedEach world.now pass parts.now env.old self.old self.new) }
         ensures unchanged { OnErr result (spec.HasOnlyEntered pass self.old self.new) }
         ensures kept { frame env.new ≡ frame env.old }
     {
@@ -125,7 +125,7 @@ impl State {
         requires room { EffectFitsWithin (frame env.old) params.now body.now }
         requires plain { spec.IsPlain (frame env.old) body.now }
         ensures passed { OnOk result
-            (HasPassedWithin world.now.types.now world.now.objects.now pass params.now body.now env.old self.old self.new) }
+            (HasPassedWithin world.now pass params.now body.now env.old self.old self.new) }
         ensures unchanged { OnErr result (spec.HasOnlyEntered pass self.old self.new) }
         ensures kept { frame env.new ≡ frame env.old }
     {
@@ -157,7 +157,7 @@ impl State {
         requires room { EffectFitsWithin (frame env.old) (param.now ∷ rest.now) body.now }
         requires plain { spec.IsPlain (frame env.old) body.now }
         ensures passed { OnOk result
-            (HasPassedWithin world.now.types.now world.now.objects.now pass (param.now ∷ rest.now) body.now env.old self.old self.new) }
+            (HasPassedWithin world.now pass (param.now ∷ rest.now) body.now env.old self.old self.new) }
         ensures unchanged { OnErr result (spec.HasOnlyEntered pass self.old self.new) }
         ensures kept { frame env.new ≡ frame env.old }
     {
@@ -181,11 +181,11 @@ impl State {
         world: &World<'_>,
     ) -> Result<(), Memory>
         requires world { IsWorld world.now }
-        requires domain { IsDomainOf world.now.types.now world.now.objects.now param.now.ty domain.now }
+        requires domain { IsDomainIn world.now param.now.ty domain.now }
         requires room { EffectFitsWithin (frame env.old) (param.now ∷ rest.now) body.now }
         requires plain { spec.IsPlain (frame env.old) body.now }
         ensures passed { OnOk result
-            (HasPassedWithin world.now.types.now world.now.objects.now pass (param.now ∷ rest.now) body.now env.old self.old self.new) }
+            (HasPassedWithin world.now pass (param.now ∷ rest.now) body.now env.old self.old self.new) }
         ensures unchanged { OnErr result (spec.HasOnlyEntered pass self.old self.new) }
         ensures kept { frame env.new ≡ frame env.old }
     {

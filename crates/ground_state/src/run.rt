@@ -1,4 +1,4 @@
-ghost use Rattle.std.specs.Prelude.{◌≤◌, [], length, IfOk, OnErr};
+ghost use Rattle.std.specs.Prelude.{◌≡◌, ◌≤◌, [], length, IfOk, OnErr};
 ghost use Rattle.ground_state.specs.Runs as spec;
 
 use crate::arguments::fill;
@@ -7,7 +7,7 @@ use crate::need::Need;
 use crate::state::State;
 use crate::truth::is_true;
 use crate::verdict::Verdict;
-use htn_base::{List, Memory};
+use htn_base::{List, Memory, NameTable};
 use plan_model::{FailWhy, GroundAction, Pddl};
 use problem_index::Index;
 use std::alloc::Global;
@@ -37,8 +37,18 @@ impl<'p> Run<'p> {
         requires runnable { spec.IsRunnable p.now }
         ensures fresh { IfOk result (spec.HasTaken p.now []) }
     {
+        let names = NameTable::of(alloc, &p.names)?;
+        Run::over(alloc, p, names)
+    }
+
+    /// The same, where the table of the problem's words is there already.
+    pub fn over(alloc: Global, p: &'p Pddl, names: NameTable) -> Result<Run<'p>, Memory>
+        requires runnable { spec.IsRunnable p.now }
+        requires names { names ≡ p.now.names }
+        ensures fresh { IfOk result (spec.HasTaken p.now []) }
+    {
+        let index = Index::over(alloc, names, &p.types, &p.objects, &p.actions)?;
         let need = Need::of(p)?;
-        let index = Index::new(alloc, p)?;
         let env = Env::new(alloc, &List::new(alloc), need.depth, need.arity)?;
         let state = State::new(alloc, &p.init)?;
         Ok(Run {
@@ -67,10 +77,10 @@ impl<'p> Run<'p> {
             return Ok(Some(FailWhy::UnknownAction));
         };
         let params = action.params.as_slice();
-        if !fill(&self.index, self.p, params, args, &mut self.env) {
+        let world = self.index.world(&self.p.types, &self.p.objects);
+        if !fill(&self.index, &world, params, args, &mut self.env) {
             return Ok(Some(FailWhy::Arguments));
         }
-        let world = self.index.world(self.p);
         if !is_true(&action.pre, &mut self.env, &self.state, &world) {
             return Ok(Some(FailWhy::Condition));
         }
@@ -103,7 +113,7 @@ impl<'p> Run<'p> {
         ensures kept { spec.KeepsTaken self.old self.new }
     {
         self.env.clear();
-        let world = self.index.world(self.p);
+        let world = self.index.world(&self.p.types, &self.p.objects);
         is_true(&self.p.goal, &mut self.env, &self.state, &world)
     }
 }

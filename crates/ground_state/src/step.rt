@@ -4,7 +4,7 @@ ghost use Rattle.problem_index.specs.Kinds.{IsWorld};
 ghost use Rattle.ground_state.specs.Frames.{frame};
 ghost use Rattle.ground_state.specs.Room.{EffectFits};
 ghost use Rattle.ground_state.specs.States.{IsSame};
-ghost use Rattle.ground_state.specs.Clauses.{After};
+ghost use Rattle.ground_state.specs.Clauses.{After, AfterInWorld};
 
 use crate::atom_list::AtomLists;
 use crate::env::Env;
@@ -45,8 +45,8 @@ impl State {
         self.apply_in(alloc, &world, eff, env)
     }
 
-    /// The same, in a world. Of an effect without conditions no lists are made.
-    pub(crate) fn apply_in(
+    /// The same, in a world, where a quantifier goes over the objects of its type. Of an effect without conditions no lists are made.
+    pub fn apply_in(
         &mut self,
         alloc: Global,
         world: &World<'_>,
@@ -56,7 +56,7 @@ impl State {
         requires world { IsWorld world.now }
         requires room { EffectFits (frame env.old) eff.now }
         ensures after { OnOk result
-            (After world.now.types.now world.now.objects.now self.old eff.now env.old self.new) }
+            (AfterInWorld world.now self.old eff.now env.old self.new) }
         ensures unchanged { OnErr result (IsSame self.old self.new) }
         ensures kept { frame env.new ≡ frame env.old }
     {
@@ -88,7 +88,7 @@ impl State {
         requires world { IsWorld world.now }
         requires room { EffectFits (frame env.old) eff.now }
         ensures after { OnOk result
-            (After world.now.types.now world.now.objects.now self.old eff.now env.old self.new) }
+            (AfterInWorld world.now self.old eff.now env.old self.new) }
         ensures unchanged { OnErr result (IsSame self.old self.new) }
         ensures kept { frame env.new ≡ frame env.old }
     {

@@ -1,11 +1,11 @@
 ghost use Rattle.std.specs.Prelude.{◌≡◌, ◌<◌, ◌^◌, ◌∷◌, ◌↔◌, IsTrue, IfSome, length};
 ghost use Rattle.plan_model.specs.Parts.{AreListed};
-ghost use Rattle.problem_index.specs.Domains.{IsBelow, IsDomainOf};
+ghost use Rattle.problem_index.specs.Domains.{IsBelow};
 ghost use Rattle.problem_index.specs.Kinds.{IsWorld};
 ghost use Rattle.ground_state.specs.Frames.{frame};
 ghost use Rattle.ground_state.specs.Room.{Fits, AllFit, FitsWithin};
 ghost use Rattle.ground_state.specs.Search.{IsLiteralFound};
-ghost use Rattle.ground_state.specs.Clauses.{IsTrueBy, IsAmong, Finds};
+ghost use Rattle.ground_state.specs.Clauses.{IsTrueBy, IsTrueInWorld, IsDomainIn, IsAmong, Finds};
 
 use crate::env::Env;
 use crate::state::State;
@@ -37,13 +37,13 @@ pub fn holds<'a>(
     is_true(f, env, s, &world)
 }
 
-/// The same, in a world. Of a literal, as most parts of conditions are, it is told without a further call.
+/// The same, in a world, where a quantifier goes over the objects of its type. Of a literal, as most parts of conditions are, it is told without a further call.
 #[cycle(holds_in)]
 #[inline(always)]
-pub(crate) fn is_true(f: &Formula, env: &mut Env, s: &State, world: &World<'_>) -> bool
+pub fn is_true(f: &Formula, env: &mut Env, s: &State, world: &World<'_>) -> bool
     requires world { IsWorld world.now }
     requires room { Fits (frame env.old) f.now }
-    ensures truth { IsTrue result ↔ IsTrueBy world.now.types.now world.now.objects.now s.now f.now env.old }
+    ensures truth { IsTrue result ↔ IsTrueInWorld world.now s.now f.now env.old }
     ensures kept { frame env.new ≡ frame env.old }
 {
     if let Formula::Holds(atom) = f {
@@ -62,7 +62,7 @@ pub(crate) fn is_true(f: &Formula, env: &mut Env, s: &State, world: &World<'_>) 
 fn holds_in(f: &Formula, env: &mut Env, s: &State, world: &World<'_>) -> bool
     requires world { IsWorld world.now }
     requires room { Fits (frame env.old) f.now }
-    ensures truth { IsTrue result ↔ IsTrueBy world.now.types.now world.now.objects.now s.now f.now env.old }
+    ensures truth { IsTrue result ↔ IsTrueInWorld world.now s.now f.now env.old }
     ensures kept { frame env.new ≡ frame env.old }
 {
     match f {
@@ -91,7 +91,7 @@ fn holds_in(f: &Formula, env: &mut Env, s: &State, world: &World<'_>) -> bool
 fn is_among(wanted: bool, parts: &[Formula], env: &mut Env, s: &State, world: &World<'_>) -> bool
     requires world { IsWorld world.now }
     requires room { AllFit (frame env.old) parts.now }
-    ensures answer { IsAmong world.now.types.now world.now.objects.now s.now wanted result parts.now env.old }
+    ensures answer { IsAmong world.now s.now wanted result parts.now env.old }
     ensures kept { frame env.new ≡ frame env.old }
 {
     for part in parts {
@@ -114,7 +114,7 @@ fn is_found(
 ) -> bool
     requires world { IsWorld world.now }
     requires room { FitsWithin (frame env.old) params.now body.now }
-    ensures answer { Finds world.now.types.now world.now.objects.now s.now wanted result params.now body.now env.old }
+    ensures answer { Finds world.now s.now wanted result params.now body.now env.old }
     ensures kept { frame env.new ≡ frame env.old }
 {
     let Some((param, rest)) = params.split_first() else {
@@ -142,7 +142,7 @@ fn is_found_in_parts(
 ) -> bool
     requires world { IsWorld world.now }
     requires room { FitsWithin (frame env.old) (param.now ∷ rest.now) body.now }
-    ensures answer { Finds world.now.types.now world.now.objects.now s.now wanted result (param.now ∷ rest.now) body.now env.old }
+    ensures answer { Finds world.now s.now wanted result (param.now ∷ rest.now) body.now env.old }
     ensures kept { frame env.new ≡ frame env.old }
 {
     let parts = Parts::new(world.types, param.ty);
@@ -164,9 +164,9 @@ fn is_found_of(
     world: &World<'_>,
 ) -> bool
     requires world { IsWorld world.now }
-    requires domain { IsDomainOf world.now.types.now world.now.objects.now param.now.ty domain.now }
+    requires domain { IsDomainIn world.now param.now.ty domain.now }
     requires room { FitsWithin (frame env.old) (param.now ∷ rest.now) body.now }
-    ensures answer { Finds world.now.types.now world.now.objects.now s.now wanted result (param.now ∷ rest.now) body.now env.old }
+    ensures answer { Finds world.now s.now wanted result (param.now ∷ rest.now) body.now env.old }
     ensures kept { frame env.new ≡ frame env.old }
 {
     if rest.is_empty() {

@@ -3,3 +3,6 @@ pub mod PlaceLaws
 pub mod KindLaws
 pub mod IndexLaws
 pub mod ListLaws
+pub mod PrintedLaws
+pub mod PrintedNames
+pub mod PrintedArguments

@@ -20,5 +20,8 @@ pub record ArePlaces (count : ℕ) (names : List Name) (places : List (Option �
   pub each : AreFirstPlaces (length names) names places
 
 -- what is found for a word: a place of what has it, or that nothing has it
+abbrev pub IsThePlace : List (List ℕ) → List Name → List ℕ → Option ℕ → Type 0
+IsThePlace table names word found = MatchOption found ((k : ℕ) → HasWordAt table names word k → ⊥) (HasWordAt table names word)
+
 abbrev pub Finds : List (List ℕ) → List (Option ℕ) → List ℕ → Option ℕ → Type 0
-Finds table places word found = (names : List Name) → ArePlaces (length table) names places → MatchOption found ((k : ℕ) → HasWordAt table names word k → ⊥) (HasWordAt table names word)
+Finds table places word found = (names : List Name) → ArePlaces (length table) names places → IsThePlace table names word found

@@ -1,35 +1,35 @@
-ghost use Rattle.std.specs.Prelude.{◌≡◌, ◌<◌, ◌^◌, length, IfOk};
+ghost use Rattle.std.specs.Prelude.{◌≡◌, ◌<◌, ◌^◌, length, map, IfOk};
 ghost use Rattle.std.specs.Option.{option_copied};
+ghost use Rattle.plan_model.specs.declared.schemas.ActionSchema.{ActionSchema as action};
+ghost use Rattle.plan_model.specs.declared.values.Pddl.{Pddl as problem};
 ghost use Rattle.plan_model.specs.Parts.{AreListed};
-ghost use Rattle.plan_model.specs.plan_meaning.FailingStep.{AreNamedApart};
-ghost use Rattle.problem_index.specs.Kinds.{IsWorld};
+ghost use Rattle.problem_index.specs.Kinds.{AreKinds, IsWorld};
+ghost use Rattle.problem_index.specs.Places.{IsThePlace};
 ghost use Rattle.problem_index.specs.Index as spec;
 
 use crate::kinds::Kinds;
 use crate::places::Places;
+use crate::words::Words;
 use crate::world::World;
-use htn_base::{Marks, Memory, NameTable};
-use plan_model::{ActionSchema, Pddl};
+use htn_base::{List, Memory, NameTable};
+use plan_model::{ActionSchema, Object, Pddl, Types};
 use std::alloc::Global;
 
-/// Where the actions and the objects of a problem stand, by their words, and what is known of its types. `names` finds the words
-/// of the problem, and `marks` are of these.
+/// Where the actions and the objects of a problem stand, by their words, and what is known of its types.
 pub struct Index {
+    words: Words,
     actions: Places,
     objects: Places,
     kinds: Kinds,
-    names: NameTable,
-    marks: Marks,
 }
 
 impl Drop for Index {
     fn drop(self) {
         let Index {
+            words: _,
             actions: _,
             objects: _,
             kinds: _,
-            names: _,
-            marks: _,
         } = self;
     }
 }
@@ -42,24 +42,49 @@ impl Index {
         requires few_actions { length p.now.actions < 2 ^ 32 }
         ensures index { IfOk result (spec.IsIndex p.now) }
     {
-        let mut actions = Places::none(alloc, p.names.len())?;
-        for (place, action) in p.actions.as_slice().iter().enumerate() {
-            actions.put(action.name, place as u32);
-        }
-        let mut objects = Places::none(alloc, p.names.len())?;
-        for (place, object) in p.objects.as_slice().iter().enumerate() {
-            objects.put(object.name, place as u32);
-        }
-        let kinds = Kinds::new(alloc, &p.types, &p.objects)?;
         let names = NameTable::of(alloc, &p.names)?;
-        let marks = Marks::of(alloc, &names)?;
+        Index::over(alloc, names, &p.types, &p.objects, &p.actions)
+    }
+
+    /// The index of these types, objects and actions, whose names are numbers of the table. The words by which they are found
+    /// are those of the table: those of a source problem, or the printed ones.
+    pub fn over(
+        alloc: Global,
+        names: NameTable,
+        types: &Types,
+        objects: &List<Object>,
+        actions: &List<ActionSchema>,
+    ) -> Result<Index, Memory>
+        requires listed { AreListed types.now }
+        requires few_objects { length objects.now < 2 ^ 32 }
+        requires few_actions { length actions.now < 2 ^ 32 }
+        ensures index { IfOk result (spec.IsIndexOf names types.now objects.now actions.now) }
+    {
+        let words = Words::of(alloc, names)?;
+        let actions = Places::of(alloc, words.len(), actions.as_slice())?;
+        let places = Places::of(alloc, words.len(), objects.as_slice())?;
+        let kinds = Kinds::new(alloc, types, objects)?;
         Ok(Index {
+            words,
             actions,
-            objects,
+            objects: places,
             kinds,
-            names,
-            marks,
         })
+    }
+
+    /// The words by which things are found.
+    pub fn words(&self) -> &Words
+        ensures { result.now ≡ self.now.words }
+    {
+        &self.words
+    }
+
+    /// The place of the action that has the word, among the actions.
+    pub fn action_place(&self, word: &[u8]) -> Option<u32>
+        ensures { (p : problem) → spec.IsIndex p self.now
+            → IsThePlace p.names (map (λ (a : action). a.name) p.actions) word.now result }
+    {
+        self.actions.find(&self.words, word)
     }
 
     /// The action that has the name.
@@ -67,38 +92,36 @@ impl Index {
         requires index { spec.IsIndex p.now self.now }
         ensures { spec.HasTheName p.now name.now (option_copied result) }
     {
-        let place = self.actions.find(&self.marks, &self.names, name)?;
+        let place = self.action_place(name)?;
         p.actions.get(place as usize)
     }
 
     /// The object that has the word, where it is in the type.
     #[inline(always)]
-    pub fn object(&self, p: &Pddl, word: &[u8], ty: u32) -> Option<u32>
-        requires listed { AreListed p.now.types }
-        requires apart { AreNamedApart p.now }
-        requires index { spec.IsIndex p.now self.now }
-        ensures { spec.IsTheArgument p.now word.now ty result }
+    pub fn object(&self, world: &World<'_>, word: &[u8], ty: u32) -> Option<u32>
+        requires world { IsWorld world.now }
+        ensures { (p : problem) → spec.AreOf p self.now world.now → spec.IsTheArgument p word.now ty result }
     {
-        let object = self.objects.find(&self.marks, &self.names, word)?;
-        if self.kinds.have(&p.types, &p.objects, object, ty) {
+        let object = self.objects.find(&self.words, word)?;
+        if world.has(object, ty) {
             return Some(object);
         }
         None
     }
 
-    /// The types and the objects of the problem, with what is known of the types.
+    /// The types and the objects, with what is known of the types.
     #[inline(always)]
-    pub fn world<'a>(&'a self, p: &'a Pddl) -> World<'a>
-        requires listed { AreListed p.now.types }
-        requires few { length p.now.objects < 2 ^ 32 }
-        requires index { spec.IsIndex p.now self.now }
+    pub fn world<'a>(&'a self, types: &'a Types, objects: &'a List<Object>) -> World<'a>
+        requires listed { AreListed types.now }
+        requires few { length objects.now < 2 ^ 32 }
+        requires kinds { AreKinds types.now objects.now self.now.kinds }
         ensures world { IsWorld result }
-        ensures types { result.types.now ≡ p.now.types }
-        ensures objects { result.objects.now ≡ p.now.objects }
+        ensures types { result.types.now ≡ types.now }
+        ensures objects { result.objects.now ≡ objects.now }
     {
         World {
-            types: &p.types,
-            objects: &p.objects,
+            types,
+            objects,
             kinds: Some(&self.kinds),
         }
     }

@@ -142,10 +142,10 @@ gather_within-returns-in_default-clause-gathered t c =
     ) c.gather.ensures.gathered
 
 pub gather_within-returns-in-Some-domain-clause-gathered : goal.gather_within-returns-in-Some-domain-clause-gathered
-gather_within-returns-in-Some-domain-clause-gathered t c = subst (λ ps. OnOk c.gather_of.result (GetsWithin c.args.world.now.types.now c.args.world.now.objects.now c.args.s.now ps c.args.body.now c.args.env.now c.args.into.now c.gather_of.new.into)) (sym c.in-Some.ensures.cases.0) c.gather_of.ensures.gathered
+gather_within-returns-in-Some-domain-clause-gathered t c = subst (λ ps. OnOk c.gather_of.result (GetsWithin c.args.world.now c.args.s.now ps c.args.body.now c.args.env.now c.args.into.now c.gather_of.new.into)) (sym c.in-Some.ensures.cases.0) c.gather_of.ensures.gathered
 
 pub gather_within-returns-in-None-clause-gathered : goal.gather_within-returns-in-None-clause-gathered
-gather_within-returns-in-None-clause-gathered t c = subst (λ ps. OnOk c.gather_in_parts.result (GetsWithin c.args.world.now.types.now c.args.world.now.objects.now c.args.s.now ps c.args.body.now c.args.env.now c.args.into.now c.gather_in_parts.new.into)) (sym c.in-Some.ensures.cases.0) c.gather_in_parts.ensures.gathered
+gather_within-returns-in-None-clause-gathered t c = subst (λ ps. OnOk c.gather_in_parts.result (GetsWithin c.args.world.now c.args.s.now ps c.args.body.now c.args.env.now c.args.into.now c.gather_in_parts.new.into)) (sym c.in-Some.ensures.cases.0) c.gather_in_parts.ensures.gathered
 
 pub gather_in_parts-gather_of-requires : goal.gather_in_parts-gather_of-requires
 gather_in_parts-gather_of-requires t c = ((let d = c.decreases in omega (arith, d)), (c.requires.world, (c.among-domain.ensures c.args.world.now.types.now c.args.param.now.ty c.new-parts.ensures, c.requires.room)))

@@ -1,4 +1,4 @@
-use Rattle.std.proofs.Common.{◌≤◌, ◌↔◌, IsTrue, List, length, refl, sym, subst, ◌∙◌, true≢false}
+use Rattle.std.proofs.Common.{◌≡◌, ◌≤◌, ◌↔◌, IsTrue, List, length, refl, sym, subst, ◌∙◌, true≢false}
 use Rattle.std.proofs.lemmas.Result.{IfOk-from_err}
 use Rattle.std.specs.Vec.{vec_capacity}
 use Rattle.plan_model.specs.declared.terms.Param.{Param}
@@ -6,13 +6,20 @@ use Rattle.plan_model.specs.Typing.{InType}
 use Rattle.plan_model.specs.plan_meaning.Truth.{IsTrueIn, after}
 use Rattle.plan_model.specs.plan_meaning.ClassicalPlan.{InTypeOf}
 use Rattle.plan_model.specs.declared.causes.FailWhy.TheVariants as why
+use Rattle.problem_index.specs.declared.world.World.{World}
+use Rattle.problem_index.specs.Index.{AreOf}
+use Rattle.ground_state.specs.declared.run.Run.{Run}
 use Rattle.ground_state.specs.Frames.{Frame, frame}
 use Rattle.ground_state.specs.Room.{EffectFits}
 use Rattle.ground_state.specs.States.{atoms, Has}
-use Rattle.ground_state.specs.Runs.{texts, words_step, IsAsRoomy}
+use Rattle.ground_state.specs.Runs.{texts, words_step, IsAsRoomy, IsReady}
 use Rattle.ground_state.proofs.PassLaws.{on_error}
 use Rattle.ground_state.proofs.RunLaws as laws
 use Rattle.ground_state.proofs.run.Run.take.Goals as goal
+
+-- the index and the world of a run are its problem's
+are : (run : Run) (world : World) → IsReady run → world.types.now ≡ run.p.now.types → world.objects.now ≡ run.p.now.objects → AreOf run.p.now run.index world
+are run world ready types objects = record { apart = ready.runnable.apart; indexed = ready.index; types = types; objects = objects }
 
 pub returns-in_default-clause-taken : goal.returns-in_default-clause-taken
 returns-in_default-clause-taken c = laws.fails c.args.self.now (words_step c.args.name.now c.args.args.now) why.UnknownAction (c.in_default.ensures (texts c.args.args.now))
@@ -31,7 +38,7 @@ returns-then-not-fill-clause-taken c =
     let step = words_step c.args.name.now c.args.args.now in
     laws.fails old step why.Arguments
     (laws.arguments_fail p step a (c.in-Some.ensures words) c.requires.ready.runnable.apart (atoms old.state)
-    (λ os args. c.if-not-fill.ensures.filled os (laws.same_arguments p a.params c.as_slice-params.result.now words words os (sym c.as_slice-params.ensures.items) refl args)))
+    (λ os args. c.if-not-fill.ensures.filled p (are c.args.self.now c.world-world.result c.requires.ready c.world-world.ensures.types c.world-world.ensures.objects) os (laws.same_arguments p a.params c.as_slice-params.result.now words words os (sym c.as_slice-params.ensures.items) refl args)))
 
 pub is_true-requires-clause-room : goal.is_true-requires-clause-room
 is_true-requires-clause-room c =
@@ -39,7 +46,7 @@ is_true-requires-clause-room c =
     let p = old.p.now in
     let a = c.in-Some.action.now in
     let words = texts c.args.args.now in
-    let args = laws.same_arguments p c.as_slice-params.result.now a.params words words c.fill.new.env.values.items c.as_slice-params.ensures.items refl c.if-not-fill.ensures.filled in
+    let args = laws.same_arguments p c.as_slice-params.result.now a.params words words c.fill.new.env.values.items c.as_slice-params.ensures.items refl (c.if-not-fill.ensures.filled p (are c.args.self.now c.world-world.result c.requires.ready c.world-world.ensures.types c.world-world.ensures.objects)) in
     laws.room_for_pre p (words_step c.args.name.now c.args.args.now) a (c.in-Some.ensures words) (frame c.fill.new.env) (laws.still_roomy p (frame old.env) (frame c.fill.new.env) c.fill.ensures.room c.requires.ready.room) args.1
 
 pub returns-then-not-is_true-clause-taken : goal.returns-then-not-is_true-clause-taken
@@ -51,7 +58,7 @@ returns-then-not-is_true-clause-taken c =
     let a = c.in-Some.action.now in
     let words = texts c.args.args.now in
     let step = words_step c.args.name.now c.args.args.now in
-    let args = laws.same_arguments p c.as_slice-params.result.now a.params words words c.fill.new.env.values.items c.as_slice-params.ensures.items refl c.if-not-fill.ensures.filled in
+    let args = laws.same_arguments p c.as_slice-params.result.now a.params words words c.fill.new.env.values.items c.as_slice-params.ensures.items refl (c.if-not-fill.ensures.filled p (are c.args.self.now c.world-world.result c.requires.ready c.world-world.ensures.types c.world-world.ensures.objects)) in
     laws.fails old step why.Condition
     (laws.condition_fails p step a (c.in-Some.ensures words) c.requires.ready.runnable.apart (atoms old.state) c.fill.new.env.values.items args (λ t. true≢false (sym (truth.1 t) ∙ c.if-not-is_true.true)))
 
@@ -61,7 +68,7 @@ apply_in-requires-clause-room c =
     let p = old.p.now in
     let a = c.in-Some.action.now in
     let words = texts c.args.args.now in
-    let args = laws.same_arguments p c.as_slice-params.result.now a.params words words c.fill.new.env.values.items c.as_slice-params.ensures.items refl c.if-not-fill.ensures.filled in
+    let args = laws.same_arguments p c.as_slice-params.result.now a.params words words c.fill.new.env.values.items c.as_slice-params.ensures.items refl (c.if-not-fill.ensures.filled p (are c.args.self.now c.world-world.result c.requires.ready c.world-world.ensures.types c.world-world.ensures.objects)) in
     subst (λ e. EffectFits e c.in-Some.action.now.eff) (sym c.is_true.ensures.kept)
     (laws.room_for_eff p (words_step c.args.name.now c.args.args.now) a (c.in-Some.ensures words) (frame c.fill.new.env) (laws.still_roomy p (frame old.env) (frame c.fill.new.env) c.fill.ensures.room c.requires.ready.room) args.1)
 
@@ -77,7 +84,7 @@ returns-clause-taken c =
     let words = texts c.args.args.now in
     let step = words_step c.args.name.now c.args.args.now in
     let os = c.fill.new.env.values.items in
-    let args = laws.same_arguments p c.as_slice-params.result.now a.params words words os c.as_slice-params.ensures.items refl c.if-not-fill.ensures.filled in
+    let args = laws.same_arguments p c.as_slice-params.result.now a.params words words os c.as_slice-params.ensures.items refl (c.if-not-fill.ensures.filled p (are c.args.self.now c.world-world.result c.requires.ready c.world-world.ensures.types c.world-world.ensures.objects)) in
     let same = c.apply_in.ensures.kept ∙ c.is_true.ensures.kept in
     let roomy = subst (IsAsRoomy (frame c.args.self.now.env)) (sym same) c.fill.ensures.room in
     laws.takes old _ refl refl roomy step (
