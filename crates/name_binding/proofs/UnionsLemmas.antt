@@ -1,5 +1,6 @@
 -- The unions of one more part.
-use Rattle.std.proofs.Common.{◌≡◌, ℕ, ◌+◌, ◌<◌, Bool, true, false, ◌||◌, List, [], ◌∷◌, ◌++◌, map, take, length, get_or, refl, sym, ap, subst, ◌∙◌, append-nil}
+use Rattle.std.proofs.Common.{◌≡◌, ℕ, ◌+◌, ◌<◌, Bool, true, false, ◌||◌, List, [], ◌∷◌, ◌++◌, map, take, length, get_or, Result, Ok, Err, refl, sym, ap, subst, ◌∙◌, append-nil}
+use Rattle.std.specs.Prelude.{OnErr}
 use Rattle.std.specs.List.{list_any, fold}
 use Rattle.std.specs.Str.{bytes_eq}
 use Rattle.std.proofs.lemmas.Bool.{cond-true, cond-false}
@@ -9,12 +10,23 @@ use Rattle.std.proofs.lemmas.List.Sums.{fold-append}
 use Rattle.htn_base.specs.Table.{with_word}
 use Rattle.std.proofs.lemmas.List.{append_assoc}
 use Rattle.name_binding.specs.declared.unions.Either.{Either}
-use Rattle.name_binding.specs.Unions.{joined}
+use Rattle.name_binding.specs.Unions.{joined, StartsWith}
 use Rattle.name_binding.proofs.StepLemmas.{map-read}
 
 joined-push : (uss : List (List Either)) (us : List Either) → joined (uss ++ us ∷ []) ≡ joined uss ++ us
 joined-push [] us = append-nil us
 joined-push (vs ∷ uss) us = ap (λ ws. vs ++ ws) (joined-push uss us) ∙ sym (append_assoc vs (joined uss) us)
+
+-- what was put behind the others, before memory was wanting
+pub starts-there : (old now : List Either) → now ≡ old → StartsWith old now
+starts-there old now same = ([], same ∙ sym (append-nil old))
+
+pub starts-more : (old now new xs : List Either) → now ≡ old ++ xs → StartsWith now new → StartsWith old new
+starts-more old now new xs put (rest, more) = (xs ++ rest, more ∙ ap (λ us. us ++ rest) put ∙ append_assoc old xs rest)
+
+pub starts-after : {T E : Type 0} (answer : Result T E) (old now new xs : List Either) → now ≡ old ++ xs → OnErr answer (StartsWith now new) → OnErr answer (StartsWith old new)
+starts-after (Ok value) old now new xs put starts = tt
+starts-after (Err error) old now new xs put starts = starts-more old now new xs put starts
 
 pub joined-read : {A : Type 0} (f : A → List Either) (xs : List A) (i : ℕ) (x : A) (old now then : List Either)
     → i < length xs → x ≡ get_or xs i x → now ≡ old ++ joined (map f (take i xs)) → then ≡ now ++ f x → then ≡ old ++ joined (map f (take (i + 1) xs))

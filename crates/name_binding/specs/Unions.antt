@@ -24,6 +24,10 @@ abbrev pub joined : List (List Either) → List Either
 joined [] = []
 joined (us ∷ uss) = us ++ joined uss
 
+-- these stand in front of the others
+abbrev pub StartsWith : List Either → List Either → Type 0
+StartsWith front all = (rest : List Either) × (all ≡ front ++ rest)
+
 module _ (kinds : Kinds) where
   abbrev pub unions_said : List RawTerm → List Either
   unions_said [] = []

@@ -1,6 +1,6 @@
-ghost use Rattle.std.specs.Prelude.{◌≡◌, ◌++◌, map, IfOk, IsTrue, OnOk};
+ghost use Rattle.std.specs.Prelude.{◌≡◌, ◌++◌, map, IfOk, IsTrue, OnOk, OnErr};
 ghost use Rattle.name_binding.specs.Kinds.{members_written};
-ghost use Rattle.name_binding.specs.Unions.{joined, union_at, unions_said, params_unions, formula_unions, effect_unions};
+ghost use Rattle.name_binding.specs.Unions.{joined, union_at, StartsWith, unions_said, params_unions, formula_unions, effect_unions};
 
 use crate::members::Members;
 use crate::table::TypeTable;
@@ -20,7 +20,7 @@ impl Drop for Either {
     }
 }
 
-/// Puts the unions of a typed list behind the others.
+/// Puts the unions of a typed list behind the others. After `Memory` the others stand in front of some of them.
 pub fn put_unions(
     alloc: Global,
     table: &TypeTable,
@@ -29,6 +29,7 @@ pub fn put_unions(
 ) -> Result<(), Memory>
     ensures put { OnOk result
         (into.new.items ≡ into.old.items ++ params_unions table.now params.now) }
+    ensures in_front { OnErr result (StartsWith into.old.items into.new.items) }
 {
     let mut members = Members::none();
     let words = params.as_slice();
@@ -53,6 +54,7 @@ fn put_union(
     requires known { IsTrue same → known ≡ members_written table.now types.now }
     ensures members { IfOk result (λ members. members ≡ members_written table.now types.now) }
     ensures put { OnOk result (into.new.items ≡ into.old.items ++ unions_said table.now types.now) }
+    ensures unchanged { OnErr result (into.new.items ≡ into.old.items) }
 {
     let members = members_by(alloc, table, same, known, types)?;
     match types {
@@ -84,6 +86,7 @@ fn members_by(
 fn put_members(at: u32, members: &Members, into: &mut Vec<Either>) -> Result<(), Memory>
     ensures put { OnOk result
         (into.new.items ≡ into.old.items ++ union_at at members.now) }
+    ensures unchanged { OnErr result (into.new.items ≡ into.old.items) }
 {
     match members.as_slice() {
         [] | [_] => Ok(()),
@@ -95,7 +98,7 @@ fn put_members(at: u32, members: &Members, into: &mut Vec<Either>) -> Result<(),
     }
 }
 
-/// Puts the unions of a formula's quantifiers behind the others.
+/// Puts the unions of a formula's quantifiers behind the others. After `Memory` the others stand in front of some of them.
 #[cycle(formula)]
 pub fn put_unions_of_formula(
     alloc: Global,
@@ -105,6 +108,7 @@ pub fn put_unions_of_formula(
 ) -> Result<(), Memory>
     ensures put { OnOk result
         (into.new.items ≡ into.old.items ++ formula_unions table.now formula.now) }
+    ensures in_front { OnErr result (StartsWith into.old.items into.new.items) }
 {
     match formula {
         RawFormula::Holds(_) | RawFormula::Equal(_, _) => Ok(()),
@@ -135,6 +139,7 @@ fn put_unions_of_formulas(
 ) -> Result<(), Memory>
     ensures put { OnOk result
         (into.new.items ≡ into.old.items ++ joined (map (formula_unions table.now) formulas.now)) }
+    ensures in_front { OnErr result (StartsWith into.old.items into.new.items) }
 {
     for part in formulas.as_slice() {
         put_unions_of_formula(alloc, table, part, into)?;
@@ -142,7 +147,8 @@ fn put_unions_of_formulas(
     Ok(())
 }
 
-/// Puts the unions of an effect's quantifiers and conditions behind the others.
+/// Puts the unions of an effect's quantifiers and conditions behind the others. After `Memory` the others stand in front
+/// of some of them.
 #[cycle(effect)]
 pub fn put_unions_of_effect(
     alloc: Global,
@@ -152,6 +158,7 @@ pub fn put_unions_of_effect(
 ) -> Result<(), Memory>
     ensures put { OnOk result
         (into.new.items ≡ into.old.items ++ effect_unions table.now effect.now) }
+    ensures in_front { OnErr result (StartsWith into.old.items into.new.items) }
 {
     match effect {
         RawEffect::Add(_) | RawEffect::Delete(_) => Ok(()),
@@ -176,6 +183,7 @@ fn put_unions_of_effects(
 ) -> Result<(), Memory>
     ensures put { OnOk result
         (into.new.items ≡ into.old.items ++ joined (map (effect_unions table.now) effects.now)) }
+    ensures in_front { OnErr result (StartsWith into.old.items into.new.items) }
 {
     for part in effects.as_slice() {
         put_unions_of_effect(alloc, table, part, into)?;
