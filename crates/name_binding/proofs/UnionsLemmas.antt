@@ -24,9 +24,9 @@ starts-there old now same = ([], same ∙ sym (append-nil old))
 pub starts-more : (old now new xs : List Either) → now ≡ old ++ xs → StartsWith now new → StartsWith old new
 starts-more old now new xs put (rest, more) = (xs ++ rest, more ∙ ap (λ us. us ++ rest) put ∙ append_assoc old xs rest)
 
-pub starts-after : {T E : Type 0} (answer : Result T E) (old now new xs : List Either) → now ≡ old ++ xs → OnErr answer (StartsWith now new) → OnErr answer (StartsWith old new)
-starts-after (Ok value) old now new xs put starts = tt
-starts-after (Err error) old now new xs put starts = starts-more old now new xs put starts
+pub starts-at : {T E : Type 0} (answer : Result T E) (old now new xs : List Either) → now ≡ old ++ xs → StartsWith now new → OnErr answer (StartsWith old new)
+starts-at (Ok value) old now new xs put starts = tt
+starts-at (Err error) old now new xs put starts = starts-more old now new xs put starts
 
 pub joined-read : {A : Type 0} (f : A → List Either) (xs : List A) (i : ℕ) (x : A) (old now then : List Either)
     → i < length xs → x ≡ get_or xs i x → now ≡ old ++ joined (map f (take i xs)) → then ≡ now ++ f x → then ≡ old ++ joined (map f (take (i + 1) xs))

@@ -1,7 +1,7 @@
 use Rattle.std.proofs.Common.{◌≡◌, ◌<◌, length, get_or, rules, arith}
 use Rattle.std.proofs.lemmas.Grind.{common_steps}
 use Rattle.name_binding.specs.Unions.{formula_unions}
-use Rattle.name_binding.proofs.UnionsLemmas.{joined-read}
+use Rattle.name_binding.proofs.UnionsLemmas.{joined-read, starts-at}
 use Rattle.name_binding.proofs.unions.+formula.Goals as goal
 
 pub put_unions_of_formulas-loop-part-preserved : goal.put_unions_of_formulas-loop-part-preserved
@@ -16,3 +16,9 @@ put_unions_of_formulas-loop-part-preserved t c =
 
 pub put_unions_of_formulas-returns : goal.put_unions_of_formulas-returns
 put_unions_of_formulas-returns t c = grind (arith, common_steps)
+
+pub put_unions_of_formulas-returns-in_err-put_unions_of_formula-clause-in_front :
+    goal.put_unions_of_formulas-returns-in_err-put_unions_of_formula-clause-in_front
+put_unions_of_formulas-returns-in_err-put_unions_of_formula-clause-in_front t c =
+    starts-at c.from_residual.result c.args.into.now.items c.loop-part.into.items c.put_unions_of_formula.new.into.items _ c.loop-part.invariant
+    c.in_err-put_unions_of_formula.ensures.in_front

@@ -4,6 +4,7 @@ use Rattle.gd_reader.proofs.Marking.{types_before-read}
 use Rattle.name_binding.specs.Kinds.{members_written}
 use Rattle.name_binding.specs.Unions.{unions_said, unions_behind}
 use Rattle.name_binding.proofs.StepLemmas.{flat-behind}
+use Rattle.name_binding.proofs.UnionsLemmas.{starts-there, starts-at}
 use Rattle.name_binding.proofs.unions.put_unions.Goals as goal
 
 pub loop-i-preserved : goal.loop-i-preserved
@@ -26,3 +27,8 @@ put_union-requires c = grind (arith, common_steps)
 
 pub returns : goal.returns
 returns c = grind (arith, common_steps)
+
+pub returns-in_err-members-clause-in_front : goal.returns-in_err-members-clause-in_front
+returns-in_err-members-clause-in_front c =
+    starts-at c.from_residual.result c.args.into.now.items c.loop-i.into.items c.put_union.new.into.items _ c.loop-i.invariant.put
+    (starts-there c.loop-i.into.items c.put_union.new.into.items c.in_err-members.ensures.unchanged)
