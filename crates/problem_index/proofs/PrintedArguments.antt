@@ -1,16 +1,13 @@
 -- Arguments in printed words: what an index over the printed words finds is what a printed step names.
-use Rattle.std.proofs.Common.{ℕ, ◌≡◌, ◌<◌, List, [], ◌∷◌, length, map, Some, slice_get, Contains, refl, sym, ap, subst, ◌∙◌}
-use Rattle.htn_base.specs.declared.name.Name.{Name}
-use Rattle.htn_base.specs.Escapes.{escaped}
+use Rattle.std.proofs.Common.{ℕ, ◌≡◌, ◌<◌, List, [], ◌∷◌, length, map, Some, slice_get, Contains, refl, sym, ap, ◌∙◌}
 use Rattle.htn_base.proofs.EscapeLemmas.{names_apart}
 use Rattle.plan_model.specs.declared.terms.Param.{Param}
 use Rattle.plan_model.specs.declared.types.Object.{Object}
 use Rattle.plan_model.specs.declared.schemas.ActionSchema.{ActionSchema}
-use Rattle.plan_model.specs.declared.steps.GroundAction.{GroundAction}
 use Rattle.plan_model.specs.declared.values.Compiled.{Compiled}
 use Rattle.plan_model.specs.plan_meaning.Truth.{AreTyped}
 use Rattle.plan_model.specs.plan_meaning.ClassicalPlan.{HasWord, AreObjects}
-use Rattle.plan_model.specs.plan_meaning.FailingStep.{IsNamed, AreNamedApart}
+use Rattle.plan_model.specs.plan_meaning.FailingStep.{AreNamedApart}
 use Rattle.plan_model.specs.plan_meaning.Network.{InTypeOf}
 use Rattle.plan_model.specs.plan_meaning.SpelledPlan.{object_word, object_by}
 use Rattle.problem_index.specs.Printed.{in_print, source_word}

@@ -1,5 +1,5 @@
 -- What the printed words of a compiled problem stand for.
-use Rattle.std.proofs.Common.{ℕ, zero, suc, ◌≡◌, ◌+◌, ◌<◌, ◌++◌, List, [], ◌∷◌, length, get_or, map, drop, codes, IsTrue, Bool, true, false, Some, None, Option, slice_get, Contains, refl, sym, ap, subst, ◌∙◌, arith, true≢false, nat_eq}
+use Rattle.std.proofs.Common.{ℕ, zero, suc, ◌≡◌, ◌<◌, ◌++◌, List, [], ◌∷◌, length, get_or, map, drop, codes, IsTrue, false, Some, None, Option, slice_get, refl, sym, ap, subst, ◌∙◌, arith, true≢false, nat_eq}
 use Rattle.std.specs.List.{starts_with}
 use Rattle.std.specs.Option.{option_map}
 use Rattle.std.proofs.lemmas.List.{length-map}
@@ -11,7 +11,6 @@ use Rattle.plan_model.specs.declared.schemas.ActionSchema.{ActionSchema}
 use Rattle.plan_model.specs.declared.schemas.MethodPlan.{MethodPlan}
 use Rattle.plan_model.specs.declared.values.Compiled.{Compiled}
 use Rattle.plan_model.specs.plan_meaning.SpelledPlan.{action_by, method_by}
-use Rattle.problem_index.specs.declared.printed_index.PrintedName.{PrintedName}
 use Rattle.problem_index.specs.declared.printed_index.PrintedName.TheVariants.{Action, Check, Method}
 use Rattle.problem_index.specs.Places.{HasWordAt, ArePlaces, IsThePlace, Finds}
 use Rattle.problem_index.specs.Printed.{others, other_names, source_word, HasPrintedNames, IsThere, word_of, StandsFor, IsTheMethod}

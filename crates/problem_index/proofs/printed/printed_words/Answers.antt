@@ -1,5 +1,5 @@
 use Rattle.std.specs.Option.{option_copied, option_map}
-use Rattle.std.proofs.Common.{◌≡◌, ◌<◌, Some, slice_get, map, length, refl, sym, ap, ◌∙◌, subst, arith}
+use Rattle.std.proofs.Common.{◌≡◌, ◌<◌, Some, slice_get, map, refl, sym, ap, ◌∙◌, subst, arith}
 use Rattle.std.proofs.lemmas.List.{take_all, length-map}
 use Rattle.std.proofs.lemmas.Option.{slice_get-map}
 use Rattle.htn_base.specs.Escapes.{escaped}

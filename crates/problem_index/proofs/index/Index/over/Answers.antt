@@ -1,4 +1,4 @@
-use Rattle.std.proofs.Common.{◌≡◌, List, ℕ, length, map, ap, subst, ◌∙◌}
+use Rattle.std.proofs.Common.{List, ℕ, length, map, ap, subst, ◌∙◌}
 use Rattle.plan_model.specs.declared.types.Object.{Object}
 use Rattle.plan_model.specs.declared.schemas.ActionSchema.{ActionSchema}
 use Rattle.problem_index.specs.Places.{ArePlaces}

@@ -1,4 +1,4 @@
-use Rattle.std.proofs.Common.{List, ℕ, map, length, subst}
+use Rattle.std.proofs.Common.{List, ℕ, map, subst}
 use Rattle.plan_model.specs.declared.schemas.MethodPlan.{MethodPlan}
 use Rattle.problem_index.specs.Places.{ArePlaces}
 use Rattle.problem_index.specs.Index.{IsIndexOf}
