@@ -11,12 +11,8 @@ use Rattle.tree_core.specs.Growths.{Growth, IsUnder, AreGrowths, IsTreeOf}
 use Rattle.tree_core.specs.Labels.{labels, labelled, all_labelled, labelled_node, labelled_growth}
 use Rattle.tree_core.specs.Runs.{AreAt}
 use Rattle.tree_core.specs.Laws.{LabelledIsAlike, RunsStandForTrees}
+use Rattle.tree_core.proofs.Gets.{mapped}
 use Rattle.tree_core.proofs.GrowthLaws.{growths_have_one_tree}
-
-mapped : {A B : Type 0} (f : A → B) (xs : List A) (k : ℕ) (y : B) → slice_get (map f xs) k ≡ Some y → (x : A) × (slice_get xs k ≡ Some x) × (f x ≡ y)
-mapped f [] k y e = absurd cc
-mapped f (x ∷ xs) zero y e = (x, refl, cc)
-mapped f (x ∷ xs) (suc k) y e = mapped f xs k y e
 
 module _ (c : Compiled) where
   mutual
