@@ -1,8 +1,8 @@
 -- What is kept of the nodes in preorder: growths, places, parents and rows.
-use Rattle.std.proofs.Common.{ℕ, zero, suc, ◌≡◌, ◌≢◌, ◌+◌, ◌<◌, ◌≤◌, ◌⊎◌, inl, inr, List, [], ◌∷◌, ◌++◌, length, set, take, map, Option, Some, None, Bool, true, false, nat_eq, eq-eqb, slice_get, refl, ap, sym, subst, ◌∙◌, Contains, arith, length-append}
+use Rattle.std.proofs.Common.{ℕ, zero, suc, ◌≡◌, ◌≢◌, ◌+◌, ◌<◌, inl, inr, List, [], ◌∷◌, ◌++◌, length, set, map, Option, Some, None, true, nat_eq, eq-eqb, slice_get, refl, ap, sym, subst, ◌∙◌, arith, length-append}
 use Rattle.std.specs.Option.{option_eq}
 use Rattle.std.proofs.lemmas.Bool.{cases_lt, cases_eq}
-use Rattle.plan_model.specs.task_networks.Tree.{Tree, Address, at, label_at, IsAddress}
+use Rattle.plan_model.specs.task_networks.Tree.{Tree, Address, at, IsAddress}
 use Rattle.plan_model.specs.task_networks.Preorder.{preorder}
 use Rattle.plan_model.proofs.task_networks.Different.{no_more}
 use Rattle.plan_model.proofs.task_networks.Nodes.{nodes, lists_address}
@@ -12,8 +12,8 @@ use Rattle.tree_core.specs.Labels.{labels}
 use Rattle.tree_core.specs.Growing.{IsPlaced, IsNodeAt, AreNodes, AreBelow, ArePlaces}
 use Rattle.tree_core.specs.Runs.{AreAt}
 use Rattle.tree_core.proofs.Gets.{get_some, get_within, get_cases, get_left, get-map, mapped, one_place, place_of}
-use Rattle.tree_core.proofs.GrowthLaws.{growth_at, node_at}
-use Rattle.tree_core.proofs.Siblings.{as_many, row_is, row_of_node, one_node_place, place_of_node}
+use Rattle.tree_core.proofs.GrowthLaws.{growth_at}
+use Rattle.tree_core.proofs.Siblings.{as_many, row_is, one_node_place, place_of_node}
 use Rattle.tree_core.proofs.TableRows.{tables_tell_trees}
 use Rattle.tree_core.proofs.Setting.{get-set_same, get-set_other, get-push}
 

@@ -1,5 +1,5 @@
 -- What a growth shows to be wrong, and what follows where none does.
-use Rattle.std.proofs.Common.{ℕ, zero, suc, ◌≡◌, ◌+◌, ◌<◌, ◌≤◌, ◌⊎◌, inl, inr, List, [], length, min, Option, Some, None, is_some, true, false, ◌==◌, slice_get, refl, ap, sym, subst, ◌∙◌, arith}
+use Rattle.std.proofs.Common.{ℕ, zero, suc, ◌≡◌, ◌+◌, ◌<◌, ◌≤◌, ◌⊎◌, inl, inr, List, length, min, Option, Some, None, is_some, true, false, ◌==◌, refl, ap, sym, subst, ◌∙◌, arith}
 use Rattle.std.proofs.lemmas.Bool.{cases_lt}
 use Rattle.plan_model.specs.task_networks.Tree.{used}
 use Rattle.tree_core.specs.declared.children.Children.{Children}
@@ -7,7 +7,6 @@ use Rattle.tree_core.specs.Growths.{Growth, IsAt, IsAstray, IsDefect, missing, a
 use Rattle.tree_core.specs.Labels.{labels, Decomposition}
 use Rattle.tree_core.specs.Growing.{found, IsChild, AreChildren, IsFine, IsLeast, least_of}
 use Rattle.tree_core.proofs.Gets.{get_some, get_within}
-use Rattle.tree_core.proofs.Noted.{one_child}
 
 module _ (gs : List (Growth labels)) where
   -- a growth that shows nothing before b shows nothing before an earlier place

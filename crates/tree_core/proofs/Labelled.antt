@@ -1,9 +1,9 @@
 -- A tree of a compiled problem and its labelled tree: the same nodes, labels that say the same, and the same growths.
-use Rattle.std.proofs.Common.{ℕ, zero, suc, ◌≡◌, ◌+◌, List, [], ◌∷◌, ◌++◌, length, map, Option, Some, None, option_map, slice_get, refl, ap, sym, subst, ◌∙◌}
+use Rattle.std.proofs.Common.{ℕ, zero, suc, ◌≡◌, List, [], ◌∷◌, ◌++◌, map, Option, Some, None, option_map, refl, ap, sym, subst, ◌∙◌}
 use Rattle.std.specs.Option.{option_and_then}
 use Rattle.std.proofs.lemmas.List.{length-map}
 use Rattle.plan_model.specs.declared.values.Compiled.{Compiled}
-use Rattle.plan_model.specs.task_networks.Tree.{Tree, Trees, open_leaf, done, split, none, more, Label, waits, ran, used, Address, at, child_at, children_of, label, label_at, IsAddress}
+use Rattle.plan_model.specs.task_networks.Tree.{Tree, Trees, open_leaf, done, split, none, more, Label, Address, at, child_at, children_of, label, label_at, IsAddress}
 use Rattle.plan_model.specs.task_networks.Preorder.{preorder, nodes_at, nodes_from}
 use Rattle.plan_model.specs.plan_meaning.Network.{network}
 use Rattle.tree_core.specs.Tables.{table}

@@ -16,4 +16,4 @@ pub mod Walking
 pub mod Setting
 pub mod Columns
 pub mod Ending
-mod Examples
+mod examples

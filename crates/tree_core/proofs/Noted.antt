@@ -1,12 +1,10 @@
 -- What is noted of the growths, one after another.
-use Rattle.std.proofs.Common.{ℕ, ◌≡◌, ◌+◌, ◌<◌, ◌≤◌, ◌⊎◌, inl, inr, List, Some, None, Option, Bool, true, false, cond, slice_get, refl, ap, sym, subst, ◌∙◌, arith}
+use Rattle.std.proofs.Common.{ℕ, ◌≡◌, ◌+◌, ◌<◌, ◌≤◌, ◌⊎◌, inl, inr, List, Some, None, slice_get, ap, sym, subst, ◌∙◌, arith}
 use Rattle.std.proofs.lemmas.Bool.{cases_lt}
-use Rattle.std.specs.Ordering.{is_eq, nat_cmp}
-use Rattle.std.specs.Cmp.{IsTotalOrder}
 use Rattle.tree_core.specs.declared.children.Children.{Children}
 use Rattle.tree_core.specs.Growths.{Growth, IsAt}
 use Rattle.tree_core.specs.Labels.{labels}
-use Rattle.tree_core.specs.Growing.{pair_cmp, found, IsChild, AreNoted}
+use Rattle.tree_core.specs.Growing.{found, IsChild, AreNoted}
 
 module _ (gs : List (Growth labels)) where
   pub one_child : (x y i j k : ℕ) → IsChild gs x i k → IsChild gs y j k → (x ≡ y) × (i ≡ j)

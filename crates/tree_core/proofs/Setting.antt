@@ -1,8 +1,8 @@
 -- A list of numbers in which one is changed, and one that is longer by one.
-use Rattle.std.proofs.Common.{ℕ, ◌≡◌, ◌≢◌, ◌<◌, ◌≤◌, ◌+◌, inl, inr, List, [], ◌∷◌, ◌++◌, length, set, Some, slice_get, refl, ap, sym, subst, ◌∙◌, arith, length-set, get_or-set_same, get_or-set_other}
+use Rattle.std.proofs.Common.{ℕ, ◌≡◌, ◌≢◌, ◌<◌, ◌+◌, inl, inr, List, [], ◌∷◌, ◌++◌, length, set, Some, slice_get, ap, sym, ◌∙◌, arith, length-set, get_or-set_same, get_or-set_other}
 use Rattle.std.proofs.lemmas.Bool.{cases_lt}
 use Rattle.std.proofs.lemmas.Option.{slice_get-get_or, slice_get_past}
-use Rattle.tree_core.proofs.Gets.{get_cases, get_left, get_right}
+use Rattle.tree_core.proofs.Gets.{get_right}
 
 pub get-set_same : (xs : List ℕ) (i x : ℕ) → i < length xs → slice_get (set xs i x) i ≡ Some x
 get-set_same xs i x l = let m = length-set xs i x in slice_get-get_or (set xs i x) i 0 (omega arith) ∙ ap Some (get_or-set_same xs i x 0 l)

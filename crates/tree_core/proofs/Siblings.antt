@@ -1,12 +1,12 @@
 -- Where children stand in preorder: the first right behind its parent, each further one where the subtree of the one before ends.
-use Rattle.std.proofs.Common.{ℕ, zero, suc, ◌≡◌, ◌+◌, ◌<◌, ◌≤◌, inl, inr, List, [], ◌∷◌, length, Option, Some, None, option_map, slice_get, refl, ap, sym, subst, ◌∙◌, arith}
+use Rattle.std.proofs.Common.{ℕ, zero, suc, ◌≡◌, ◌+◌, ◌≤◌, inl, inr, [], ◌∷◌, length, Option, Some, None, option_map, slice_get, refl, ap, sym, subst, ◌∙◌, arith}
 use Rattle.std.proofs.lemmas.Bool.{cases_lt}
 use Rattle.std.proofs.lemmas.Option.{slice_get_past}
 use Rattle.plan_model.specs.task_networks.Net.{Net}
-use Rattle.plan_model.specs.task_networks.Tree.{Tree, Trees, split, none, more, Label, Address, at, child_at, label, label_at, IsAddress}
+use Rattle.plan_model.specs.task_networks.Tree.{Tree, Trees, split, none, more, Address, at, child_at, label, IsAddress}
 use Rattle.plan_model.specs.task_networks.Preorder.{preorder}
 use Rattle.plan_model.proofs.task_networks.Nodes.{parent, child_below, nodes}
-use Rattle.tree_core.specs.Tables.{Row, size, sizes, table, IsRow, IsWay, AreConsistent}
+use Rattle.tree_core.specs.Tables.{Row, size, sizes, table, IsRow, AreConsistent}
 use Rattle.tree_core.proofs.Gets.{get_some, get_within, at_place, one_place}
 use Rattle.tree_core.proofs.OneTree.{some_node}
 use Rattle.tree_core.proofs.TableRows.{tables_tell_trees}

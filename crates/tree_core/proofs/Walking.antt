@@ -1,14 +1,13 @@
 -- From one growth to the next in preorder, by the children that are noted.
-use Rattle.std.proofs.Common.{ℕ, zero, suc, ◌≡◌, ◌+◌, ◌<◌, ◌≤◌, List, [], ◌∷◌, length, Option, Some, None, slice_get, refl, ap, sym, subst, ◌∙◌, arith}
+use Rattle.std.proofs.Common.{ℕ, suc, ◌≡◌, ◌+◌, List, [], ◌∷◌, Some, None, slice_get, refl, ap, sym, subst, ◌∙◌, arith}
 use Rattle.plan_model.specs.task_networks.Tree.{Tree, Address, IsAddress}
 use Rattle.plan_model.specs.task_networks.Preorder.{preorder}
 use Rattle.tree_core.specs.declared.children.Children.{Children}
-use Rattle.tree_core.specs.Tables.{Row, table}
 use Rattle.tree_core.specs.Growths.{Growth, IsAt, IsUnder, IsTreeOf}
 use Rattle.tree_core.specs.Labels.{labels}
 use Rattle.tree_core.specs.Growing.{found, IsChild, AreChildren, IsPlaced, EndsAt, IsNodeAt}
 use Rattle.tree_core.proofs.Gets.{get_within, place_of}
-use Rattle.tree_core.proofs.GrowthLaws.{growth_at, node_at}
+use Rattle.tree_core.proofs.GrowthLaws.{growth_at}
 use Rattle.tree_core.proofs.Joined.{under_parent, at_parent, root_at}
 use Rattle.tree_core.proofs.Siblings.{row_of_node, place_of_node, first_child, childless, next_sibling, last_sibling, root_ends}
 

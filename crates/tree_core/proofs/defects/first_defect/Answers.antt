@@ -1,4 +1,4 @@
-use Rattle.std.proofs.Common.{ℕ, ◌<◌, ◌+◌, length, sym, subst, arith}
+use Rattle.std.proofs.Common.{ℕ, ◌<◌, ◌+◌, sym, subst, arith}
 use Rattle.tree_core.specs.Labels.{growths_of}
 use Rattle.tree_core.specs.Growing.{IsLeast}
 use Rattle.tree_core.proofs.DefectLaws.{least_of_both}

@@ -1,4 +1,4 @@
-use Rattle.std.proofs.Common.{◌≡◌, refl, ap}
+use Rattle.std.proofs.Common.{refl, ap}
 use Rattle.tree_core.specs.Labels.{label_of}
 use Rattle.tree_core.proofs.defects.is_abstract.Goals as goal
 

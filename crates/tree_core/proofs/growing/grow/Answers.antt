@@ -1,4 +1,4 @@
-use Rattle.std.proofs.Common.{ℕ, ◌≡◌, ◌<◌, length, Some, None, sym, subst, ◌∙◌}
+use Rattle.std.proofs.Common.{◌<◌, length, Some, None, sym, subst, ◌∙◌}
 use Rattle.std.proofs.lemmas.List.{length-map}
 use Rattle.tree_core.specs.Labels.{growth_of, growths_of}
 use Rattle.tree_core.specs.Growing.{IsLeast}

@@ -1,15 +1,11 @@
-use Rattle.std.proofs.Common.{ℕ, ◌≡◌, length, List, Some, slice_get, ap, sym, subst, ◌∙◌}
+use Rattle.std.proofs.Common.{◌≡◌, length, ap, sym, subst, ◌∙◌}
 use Rattle.std.proofs.lemmas.List.{length-map}
-use Rattle.std.proofs.lemmas.Option.{same_Some}
-use Rattle.plan_model.specs.task_networks.Tree.{Tree, Address}
 use Rattle.plan_model.specs.task_networks.Preorder.{preorder}
-use Rattle.tree_core.specs.Growths.{IsTreeOf}
 use Rattle.tree_core.specs.Labels.{labels, growth_of, growths_of}
 use Rattle.tree_core.specs.Growing.{OfTree, AreNodes, ArePlaces}
 use Rattle.tree_core.specs.Runs.{AreAt}
-use Rattle.tree_core.proofs.Gets.{get_within}
 use Rattle.tree_core.proofs.Built.{built}
-use Rattle.tree_core.proofs.Columns.{placed_growth, place_noted, are_at, order_place}
+use Rattle.tree_core.proofs.Columns.{are_at, order_place}
 use Rattle.tree_core.proofs.growing.scheduled.Goals as goal
 
 pub parents_of-requires-clause-nodes : goal.parents_of-requires-clause-nodes

@@ -1,8 +1,7 @@
-use Rattle.std.proofs.Common.{ℕ, ◌≡◌, ◌+◌, ◌<◌, ◌++◌, [], ◌∷◌, length, map, Option, Some, None, slice_get, refl, ap, sym, subst, ◌∙◌, arith, length-append}
+use Rattle.std.proofs.Common.{◌≡◌, ◌+◌, length, Some, slice_get, refl, ap, sym, subst, ◌∙◌, arith, length-append}
 use Rattle.std.proofs.lemmas.List.{length-map}
 use Rattle.std.proofs.lemmas.Option.{slice_get-get_or, slice_get_read, get_or_from_slice_get}
-use Rattle.tree_core.specs.declared.tree.Node.{Node}
-use Rattle.tree_core.specs.Tables.{Row, table}
+use Rattle.tree_core.specs.Tables.{table}
 use Rattle.tree_core.specs.Labels.{labels, label_of, growth_of, growths_of}
 use Rattle.tree_core.specs.Nodes.{row_of, rows_of}
 use Rattle.tree_core.proofs.Gets.{get_within, get-map}

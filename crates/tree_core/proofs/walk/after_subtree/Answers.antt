@@ -1,8 +1,8 @@
-use Rattle.std.proofs.Common.{ℕ, ◌≡◌, ◌+◌, ◌<◌, length, true, false, Some, None, is_some, refl, ap, sym, subst, ◌∙◌, arith}
+use Rattle.std.proofs.Common.{◌≡◌, ◌+◌, Some, None, sym, subst, ◌∙◌, arith}
 use Rattle.std.proofs.lemmas.Option.{get_or_from_slice_get}
 use Rattle.tree_core.specs.declared.growth.Growth as Grown
 use Rattle.tree_core.specs.Labels.{growth_of, growths_of}
-use Rattle.tree_core.specs.Growing.{found, EndsAt, IsNodeAt}
+use Rattle.tree_core.specs.Growing.{found, IsNodeAt}
 use Rattle.tree_core.proofs.Gets.{get-map, get_some}
 use Rattle.tree_core.proofs.DefectLaws.{none_of, some_of, parent_before}
 use Rattle.tree_core.proofs.Walking.{root_ends_at, sibling_follows, parent_ends}

@@ -1,4 +1,4 @@
-use Rattle.std.proofs.Common.{ℕ, ◌≡◌, ◌<◌, length, IfSome}
+use Rattle.std.proofs.Common.{◌<◌, length, IfSome}
 use Rattle.tree_core.specs.Labels.{growths_of}
 use Rattle.tree_core.specs.Growing.{OfTree, AreNodes, AreBelow, IsNodeAt}
 use Rattle.tree_core.proofs.walk.in_preorder.Given as goal

@@ -1,13 +1,10 @@
-use Rattle.std.proofs.Common.{ℕ, ◌≡◌, ◌+◌, ◌<◌, ◌⊎◌, inl, inr, List, length, not, true, false, cond, Bool, Some, None, Option, is_some, refl, ap, sym, subst, ◌∙◌, arith}
-use Rattle.std.specs.Cmp.{nat_cmp_total}
-use Rattle.std.specs.Ordering.{is_eq, nat_cmp}
+use Rattle.std.proofs.Common.{◌+◌, refl, sym, subst, ◌∙◌, arith}
 use Rattle.std.proofs.lemmas.Option.{slice_get_read}
 use Rattle.std.proofs.lemmas.List.{length-map}
-use Rattle.tree_core.specs.declared.children.Children.{Children}
 use Rattle.tree_core.specs.Labels.{growth_of, growths_of}
 use Rattle.tree_core.specs.Growing.{found, AreNoted}
 use Rattle.tree_core.proofs.Gets.{get-map}
-use Rattle.tree_core.proofs.Noted.{noted_none, noted_root, noted_again, noted_new}
+use Rattle.tree_core.proofs.Noted.{noted_root, noted_again, noted_new}
 use Rattle.tree_core.proofs.Pairs.{pair_put}
 use Rattle.tree_core.proofs.DefectLaws.{none_of, some_of}
 use Rattle.tree_core.proofs.children.Children.of.Goals as goal
