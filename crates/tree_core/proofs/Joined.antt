@@ -43,7 +43,7 @@ module _ (N : Net) where
     some_parent k p None i e f u = let g : slice_get order (suc k) ≡ Some [] = e ∙ ap Some u in let h = one_place order s.different (suc k) 0 [] g f in absurd (omega arith)
     some_parent k p (Some x) i e f u = let l = u.0 in (x, refl, omega arith)
 
-    root_at : slice_get order 0 ≡ Some []
+    pub root_at : slice_get order 0 ≡ Some []
     root_at =
         let (k, e) = place_of order [] (s.all [] (label N tree, refl)) in
         let (g, h) = growth_at N gs tree order a k [] e in
@@ -63,13 +63,13 @@ module _ (N : Net) where
             first p f g h g.parent (a.under 0 g p h f)
 
     -- a growth with a parent stands under it
-    under_parent : (k x : ℕ) (g : Growth N) → slice_get gs k ≡ Some g → g.parent ≡ Some x → (p : Address) × (q : Address) × (slice_get order k ≡ Some p) × (slice_get order x ≡ Some q) × (p ≡ g.child ∷ q) × (x < k)
+    pub under_parent : (k x : ℕ) (g : Growth N) → slice_get gs k ≡ Some g → g.parent ≡ Some x → (p : Address) × (q : Address) × (slice_get order k ≡ Some p) × (slice_get order x ≡ Some q) × (p ≡ g.child ∷ q) × (x < k)
     under_parent k x g h e =
         let (p, f) = node_at N gs tree order a k g h in
         let u : IsUnder N order k (Some x) g.child p = subst (λ z. IsUnder N order k z g.child p) e (a.under k g p h f) in
         (p, u.1.0, f, u.1.1, u.1.2, u.0)
 
-    at_parent : (l : ℕ) (h : Growth N) (p : Address) (i x : ℕ) (q : Address) → slice_get order x ≡ Some q → p ≡ i ∷ q → (o : Option ℕ) → IsUnder N order l o h.child p → (o ≡ Some x) × (h.child ≡ i)
+    pub at_parent : (l : ℕ) (h : Growth N) (p : Address) (i x : ℕ) (q : Address) → slice_get order x ≡ Some q → p ≡ i ∷ q → (o : Option ℕ) → IsUnder N order l o h.child p → (o ≡ Some x) × (h.child ≡ i)
     at_parent l h p i x q e f None u = absurd (let z : [] ≡ i ∷ q = sym u ∙ f in cc)
     at_parent l h p i x q e f (Some y) (lt, (r, g, k)) =
         let z : h.child ∷ r ≡ i ∷ q = sym k ∙ f in

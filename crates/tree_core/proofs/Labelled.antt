@@ -1,9 +1,9 @@
 -- A tree of a compiled problem and its labelled tree: the same nodes, labels that say the same, and the same growths.
-use Rattle.std.proofs.Common.{ℕ, zero, suc, ◌≡◌, ◌+◌, List, [], ◌∷◌, ◌++◌, length, map, Option, Some, None, option_map, slice_get, refl, ap, sym, subst, ◌∙◌}
+use Rattle.std.proofs.Common.{ℕ, zero, suc, ◌≡◌, List, [], ◌∷◌, ◌++◌, map, Option, Some, None, option_map, refl, ap, sym, subst, ◌∙◌}
 use Rattle.std.specs.Option.{option_and_then}
 use Rattle.std.proofs.lemmas.List.{length-map}
 use Rattle.plan_model.specs.declared.values.Compiled.{Compiled}
-use Rattle.plan_model.specs.task_networks.Tree.{Tree, Trees, open_leaf, done, split, none, more, Label, waits, ran, used, Address, at, child_at, children_of, label, label_at, IsAddress}
+use Rattle.plan_model.specs.task_networks.Tree.{Tree, Trees, open_leaf, done, split, none, more, Label, Address, at, child_at, children_of, label, label_at, IsAddress}
 use Rattle.plan_model.specs.task_networks.Preorder.{preorder, nodes_at, nodes_from}
 use Rattle.plan_model.specs.plan_meaning.Network.{network}
 use Rattle.tree_core.specs.Tables.{table}
@@ -11,12 +11,8 @@ use Rattle.tree_core.specs.Growths.{Growth, IsUnder, AreGrowths, IsTreeOf}
 use Rattle.tree_core.specs.Labels.{labels, labelled, all_labelled, labelled_node, labelled_growth}
 use Rattle.tree_core.specs.Runs.{AreAt}
 use Rattle.tree_core.specs.Laws.{LabelledIsAlike, RunsStandForTrees}
+use Rattle.tree_core.proofs.Gets.{mapped}
 use Rattle.tree_core.proofs.GrowthLaws.{growths_have_one_tree}
-
-mapped : {A B : Type 0} (f : A → B) (xs : List A) (k : ℕ) (y : B) → slice_get (map f xs) k ≡ Some y → (x : A) × (slice_get xs k ≡ Some x) × (f x ≡ y)
-mapped f [] k y e = absurd cc
-mapped f (x ∷ xs) zero y e = (x, refl, cc)
-mapped f (x ∷ xs) (suc k) y e = mapped f xs k y e
 
 module _ (c : Compiled) where
   mutual

@@ -6,6 +6,14 @@ pub mod GrowthLaws
 pub mod Joined
 pub mod Built
 pub mod Consistent
+pub mod Siblings
 pub mod Labelled
 pub mod Unjoined
-mod Examples
+pub mod Pairs
+pub mod Noted
+pub mod DefectLaws
+pub mod Walking
+pub mod Setting
+pub mod Columns
+pub mod Ending
+mod examples

@@ -1,5 +1,5 @@
 -- Growths with a defect have no tree.
-use Rattle.std.proofs.Common.{ℕ, zero, suc, ◌≡◌, List, [], slice_get, Option, Some, None, ap, sym, subst, arith}
+use Rattle.std.proofs.Common.{ℕ, zero, suc, ◌≡◌, List, slice_get, Some, ap, subst, arith}
 use Rattle.plan_model.specs.task_networks.Net.{Net}
 use Rattle.tree_core.specs.Growths.{Growth, AreJoined, IsDefect, missing, astray, under_leaf, repeated, left_out, IsAstray}
 use Rattle.tree_core.specs.Laws.{UnjoinedHaveNoTree}

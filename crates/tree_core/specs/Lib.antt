@@ -3,4 +3,5 @@ pub mod Growths
 pub mod Labels
 pub mod Nodes
 pub mod Runs
+pub mod Growing
 pub mod Laws

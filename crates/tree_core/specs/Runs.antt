@@ -1,6 +1,6 @@
 -- Trees with an order of their nodes, by rows and places: the tree that grows, and the tree of a compiled problem for which they stand.
 -- Source: this project's.
-use Rattle.std.specs.Prelude.{ℕ, ◌≡◌, List, [], ◌∷◌, Option, Some, None, option_map, slice_get}
+use Rattle.std.specs.Prelude.{ℕ, ◌≡◌, List, [], ◌∷◌, Option, Some, option_map, slice_get}
 use Rattle.std.specs.Option.{option_and_then}
 use Rattle.plan_model.specs.task_networks.Tree.{Tree, Label, Address}
 use Rattle.plan_model.specs.task_networks.Preorder.{preorder}

@@ -5,11 +5,16 @@
 //! gives the one tree of the growths, or the first place at which they are not joined.
 #![tactic(auto)]
 
+mod children;
+mod defects;
+mod ends;
 mod growing;
 mod growth;
 mod label;
 mod laws;
+mod rows;
 mod tree;
+mod walk;
 
 pub use growing::grow;
 pub use growth::{GrowError, Growth, Scheduled};

@@ -1,4 +1,4 @@
-use Rattle.std.proofs.Common.{◌<◌, length, ap, arith, length-take}
+use Rattle.std.proofs.Common.{length, ap, arith, length-take}
 use Rattle.tree_core.proofs.tree.Tree.copy.Goals as goal
 
 pub invariant_of-result : goal.invariant_of-result

@@ -1,0 +1,3 @@
+mod ChildOfAnAction
+mod Defects
+mod OneRun

@@ -1,0 +1,47 @@
+ghost use Rattle.std.specs.Prelude.{◌≡◌, ◌≤◌, length, IfOk};
+ghost use Rattle.tree_core.specs.Labels.{growths_of};
+ghost use Rattle.tree_core.specs.Growing.{found, AreChildren};
+
+use crate::growth::Growth;
+use htn_base::Memory;
+use std::alloc::Global;
+use std::collections::BTreeMap;
+
+// The first growth with each parent and child number: its place by these two.
+pub(crate) struct Children {
+    places: BTreeMap<(usize, usize), u32>,
+}
+
+impl Drop for Children {
+    fn drop(self) {
+        let Children { places: _ } = self;
+    }
+}
+
+impl Children {
+    // The children that the growths give.
+    pub(crate) fn of(alloc: Global, steps: &[Growth]) -> Result<Children, Memory>
+        requires { length steps.now ≤ 1000000 }
+        ensures children { IfOk result (λ children. AreChildren (growths_of steps.now) children) }
+    {
+        let mut children = Children {
+            places: BTreeMap::new(alloc),
+        };
+        for (place, growth) in steps.iter().enumerate() {
+            if let Some(parent) = growth.parent {
+                let key = (parent as usize, growth.child as usize);
+                if !children.places.contains_key(&key) {
+                    children.places.insert(key, place as u32)?;
+                }
+            }
+        }
+        Ok(children)
+    }
+
+    // The first growth with this parent and child number.
+    pub(crate) fn at(&self, parent: usize, child: usize) -> Option<u32>
+        ensures found { result ≡ found self.now parent child }
+    {
+        self.places.get(&(parent, child)).copied()
+    }
+}
