@@ -1,9 +1,10 @@
 -- Words ask for one request at most.
-use Rattle.std.proofs.Common.{◌≡◌, ◌≤◌, ℕ, List, [], ◌∷◌, ◌++◌, Option, Some, None, IfNone, IfSome, take, drop, length, get_or, codes, unwrap_or, sym, ap, ◌∙◌, subst, arith}
+use Rattle.std.proofs.Common.{◌≡◌, ℕ, List, [], ◌∷◌, ◌++◌, Option, Some, None, IfNone, IfSome, take, drop, length, get_or, position, unwrap_or, sym, ap, ◌∙◌, subst, arith}
+use Rattle.std.specs.Str.{bytes_eq}
 use Rattle.std.proofs.Math.Seq.{take-append_seam, drop-append_seam}
-use Rattle.command_words.specs.Names.{Word, Names, names_in}
+use Rattle.command_words.specs.Names.{Word, names_in}
 use Rattle.command_words.specs.Bounds.{IsNumeral}
-use Rattle.command_words.specs.Forms.{Row, AreOptions, AreOf}
+use Rattle.command_words.specs.Forms.{Row, AreOptions, AreOf, translation_form, bound_form, validation_form}
 use Rattle.command_words.specs.Words.{TranslationRequest, BoundRequest, ValidationRequest, Request, to_translate, to_bound, to_validate, AskBy, SayTranslation, SayBound, SayValidation, AsksTranslation, AsksBound, AsksValidation, Asks, AreOfAForm}
 
 -- one list behind a word, cut at one place
@@ -66,26 +67,28 @@ one_validation_said n o r s a b =
     let e : r.domain ∷ r.problem ∷ r.plan ∷ [] ≡ s.domain ∷ s.problem ∷ s.plan ∷ [] = sym a.files ∙ b.files in
     λ i. record { domain = get_or (e i) 0 []; problem = get_or (e i) 1 []; plan = get_or (e i) 2 [] }
 
--- no words ask for two of them
-not_both : (words : List Word) (r : TranslationRequest) (s : BoundRequest) → AsksTranslation words r → AsksBound words s → ⊥
-not_both words r s (n, o, a, x) (m, p, b, y) = let e : codes "translate" ≡ codes "bound" = ap (λ z. get_or z 0 []) (sym a.spelled ∙ b.spelled) in grind (arith, e)
+-- the place of what is asked for among the commands
+abbrev commands : List Word
+commands = translation_form.command ∷ bound_form.command ∷ validation_form.command ∷ []
 
-not_a_translation : (words : List Word) (r : TranslationRequest) (s : ValidationRequest) → AsksTranslation words r → AsksValidation words s → ⊥
-not_a_translation words r s (n, o, a, x) (m, p, b, y) = let e : codes "translate" ≡ codes "validate" = ap (λ z. get_or z 0 []) (sym a.spelled ∙ b.spelled) in grind (arith, e)
+abbrev place : Request → ℕ
+place (to_translate r) = 0
+place (to_bound r) = 1
+place (to_validate r) = 2
 
-not_a_bound : (words : List Word) (r : BoundRequest) (s : ValidationRequest) → AsksBound words r → AsksValidation words s → ⊥
-not_a_bound words r s (n, o, a, x) (m, p, b, y) = let e : codes "bound" ≡ codes "validate" = ap (λ z. get_or z 0 []) (sym a.spelled ∙ b.spelled) in grind (arith, e)
+abbrev first_place : List Word → Option ℕ
+first_place words = position (bytes_eq (get_or words 0 [])) commands
+
+placed : (words : List Word) (r : Request) → Asks words r → first_place words ≡ Some (place r)
+placed words (to_translate r) asks = ap first_place asks.2.spelled
+placed words (to_bound r) asks = ap first_place asks.2.spelled
+placed words (to_validate r) asks = ap first_place asks.2.spelled
 
 pub one_request : (words : List Word) (r s : Request) → Asks words r → Asks words s → r ≡ s
 one_request words (to_translate r) (to_translate s) a b = ap to_translate (one_by _ SayTranslation one_translation_said words r s a b)
 one_request words (to_bound r) (to_bound s) a b = ap to_bound (one_by _ SayBound one_bound_said words r s a b)
 one_request words (to_validate r) (to_validate s) a b = ap to_validate (one_by _ SayValidation one_validation_said words r s a b)
-one_request words (to_translate r) (to_bound s) a b = absurd (not_both words r s a b)
-one_request words (to_bound r) (to_translate s) a b = absurd (not_both words s r b a)
-one_request words (to_translate r) (to_validate s) a b = absurd (not_a_translation words r s a b)
-one_request words (to_validate r) (to_translate s) a b = absurd (not_a_translation words s r b a)
-one_request words (to_bound r) (to_validate s) a b = absurd (not_a_bound words r s a b)
-one_request words (to_validate r) (to_bound s) a b = absurd (not_a_bound words s r b a)
+one_request words r s a b = let e : place r ≡ place s = one_some (place r) (place s) (placed words r a) (placed words s b) in absurd (omega (arith, e))
 
 -- a numeral that is asked for is one
 pub numeral_is : (words : List Word) (r : TranslationRequest) → AsksTranslation words r → IfSome r.numeral IsNumeral

@@ -1,11 +1,10 @@
 -- Worked words of the command line.
-use Rattle.std.proofs.Common.{◌≡◌, List, [], ◌∷◌, Some, None, codes, refl, sym, ap, get_or, arith, lit≤, lit<}
-use Rattle.plan_model.specs.declared.options.Style.TheVariants.{Adl, Flat}
+use Rattle.std.proofs.Common.{List, [], ◌∷◌, Some, codes, refl, ap, get_or, arith, lit≤, lit<}
+use Rattle.plan_model.specs.declared.options.Style.TheVariants.{Flat}
 use Rattle.plan_model.specs.declared.options.Checks.TheVariants.{Leaf, AtOnce}
 use Rattle.command_words.specs.Names.{Word, Names, names_in, AreApart}
 use Rattle.command_words.specs.Forms.{AreOptions, translation_form, bound_form}
-use Rattle.command_words.specs.Options.{slots_said, style_said, checks_said}
-use Rattle.command_words.specs.Words.{TranslationRequest, BoundRequest, to_translate, to_bound, to_validate, AsksTranslation, AsksBound, AreOfAForm}
+use Rattle.command_words.specs.Words.{TranslationRequest, to_translate, to_bound, to_validate, AsksTranslation, AsksBound, AreOfAForm}
 
 abbrev files : Names
 files = record { domain = codes "d.hddl"; problem = codes "p.hddl"; printed_domain = codes "od.pddl"; printed_problem = codes "op.pddl" }
