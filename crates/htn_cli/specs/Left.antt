@@ -59,6 +59,7 @@ pub record FailsToPut (texts : List Text) (name : Word) (old new : FilesState) :
   pub get_faults : new.get_faults ≡ old.get_faults
   pub put_faults : Rises old.put_faults new.put_faults
   pub failed : IfSome new.failed (λ told. told ≡ name)
+  pub lenient : new.lenient ≡ old.lenient
 
 -- the texts before one of these stand, and that one was not put
 pub record StandInPart (texts : List Text) (old new : FilesState) : Type 0 where

@@ -21,5 +21,5 @@ pub mod promise
 pub mod Checks
 pub mod Line
 pub mod Printing
-pub mod Made
 pub mod Stops
+pub mod Made

@@ -1,5 +1,5 @@
 -- The output of a command, as the program makes it.
-use Rattle.std.specs.Prelude.{ℕ, ◌≡◌, ◌≢◌, List, [], ◌∷◌, Option, Some, None, IfSome}
+use Rattle.std.specs.Prelude.{ℕ, ◌≡◌, ◌≢◌, ◌⊎◌, List, [], ◌∷◌, Option, Some, None, IfSome}
 use Rattle.outside_io.specs.Files.{FilesState}
 use Rattle.outside_io.specs.command_words.Words.{TranslationRequest, Request}
 use Rattle.plan_model.specs.declared.values.Compiled.{Compiled}
@@ -7,10 +7,12 @@ use Rattle.htn_cli.specs.Answer.{Text, Output, gives}
 use Rattle.htn_cli.specs.Answers.{IsAnswer}
 use Rattle.htn_cli.specs.Lines.{slots_line}
 use Rattle.htn_cli.specs.Printing.{AreWhole}
+use Rattle.htn_cli.specs.Stops.{IsChosen, StopsChosen, StopsPrinted}
 use Rattle.htn_cli.specs.Texts.{texts_of}
 use Rattle.htn_cli.specs.declared.manner.Manner.{Manner}
 use Rattle.htn_cli.specs.declared.output.Output.{Output as Made}
 use Rattle.htn_cli.specs.declared.output.Written.{Written}
+use Rattle.htn_cli.specs.declared.refusal.Refusal.{Refusal}
 
 abbrev pub texts_in : Written → List Text
 texts_in written = record { name = written.od.now; bytes = written.texts.domain } ∷ record { name = written.op.now; bytes = written.texts.problem } ∷ []
@@ -40,6 +42,14 @@ module _ (request : TranslationRequest) where
 
     abbrev pub IsMadeWith : Made → Type 0
     IsMadeWith made = AreMadeWith made.written × (made.told ≡ slots_line slots)
+
+  -- with the number of slots that is given, or else computed
+  module _ (compiled : Compiled) (number : Option ℕ) where
+    abbrev pub IsMadeFor : Made → Type 0
+    IsMadeFor made = (slots : ℕ) × IsChosen compiled number slots × IsMadeWith compiled slots made
+
+    abbrev pub StopsMadeFor : Refusal → Type 0
+    StopsMadeFor refusal = StopsChosen compiled number refusal ⊎ ((slots : ℕ) × IsChosen compiled number slots × StopsPrinted compiled (manner_of slots) refusal)
 
 -- what was made is the answer to a request, and nothing was written yet
 pub record GivesOutput (request : Request) (old new : FilesState) (made : Made) : Type 0 where

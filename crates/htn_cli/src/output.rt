@@ -23,7 +23,10 @@ pub(crate) struct Written<'a> {
 
 impl Drop for Output<'_> {
     fn drop(self) {
-        let Output { written: _, told: _ } = self;
+        let Output {
+            written: _,
+            told: _,
+        } = self;
     }
 }
 

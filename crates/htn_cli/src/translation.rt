@@ -5,7 +5,7 @@ ghost use Rattle.outside_io.specs.command_words.Bounds.{IsNumeral};
 ghost use Rattle.outside_io.specs.command_words.Words.{to_translate, translation_of};
 ghost use Rattle.bound_calc.specs.Soundly.{IsSoundlyCompiled};
 ghost use Rattle.htn_cli.specs.Inputs.{longest_input};
-ghost use Rattle.htn_cli.specs.Made.{GivesOutput, IsMadeWith, NamesDiffer, manner_of, output_of};
+ghost use Rattle.htn_cli.specs.Made.{GivesOutput, IsMadeFor, IsMadeWith, NamesDiffer, StopsMadeFor, manner_of, output_of};
 ghost use Rattle.htn_cli.specs.Stops.{IsGiven, StopsOutput, StopsPrinted, StopsTexts};
 ghost use Rattle.htn_cli.specs.Translation.{GivesTranslation};
 
@@ -67,12 +67,26 @@ fn translated<'a>(
 {
     let Named { d, p, .. } = asked.names;
     let compiled = compiled_from(alloc, domain, problem, &asked.checks, d, p)?;
-    let output = match slots_for(alloc, &compiled, given) {
-        Ok(slots) => output_with(alloc, &compiled, asked, slots),
-        Err(refusal) => Err(refusal),
-    };
+    let output = output_for(alloc, &compiled, asked, given);
     drop(compiled);
     output
+}
+
+/// The texts of a compiled problem with the given number of slots, or with its bound.
+fn output_for<'a>(
+    alloc: Global,
+    compiled: &Compiled,
+    asked: &Translation<'a>,
+    given: Option<u32>,
+) -> Result<Output<'a>, Refusal<'a>>
+    requires soundly { IsSoundlyCompiled compiled.now }
+    requires apart { asked.now.names.od.now ≢ asked.now.names.op.now }
+    ensures output { IfOk result (IsMadeFor (translation_of asked.now) compiled.now given) }
+    ensures differ { IfOk result NamesDiffer }
+    ensures refused { IfErr result (StopsMadeFor (translation_of asked.now) compiled.now given) }
+{
+    let slots = slots_for(alloc, compiled, given)?;
+    output_with(alloc, compiled, asked, slots)
 }
 
 /// The texts of a compiled problem with so many slots.

@@ -1,7 +1,7 @@
 use Rattle.std.proofs.Common.{◌<◌, ◌≤◌, length, refl, arith}
 use Rattle.htn_cli.specs.Inputs.{longest_input}
-use Rattle.htn_cli.proofs.Inputs.{input_of, large_of}
-use Rattle.htn_cli.proofs.problem.read.Goals as goal
+use Rattle.htn_cli.proofs.InputsRead.{input_of, large_of}
+use Rattle.htn_cli.proofs.reading.read.Goals as goal
 
 pub returns-then-len-gt-LONGEST_INPUT-clause-refused : goal.returns-then-len-gt-LONGEST_INPUT-clause-refused
 returns-then-len-gt-LONGEST_INPUT-clause-refused g c =
