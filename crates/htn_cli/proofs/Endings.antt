@@ -4,10 +4,10 @@ use Rattle.outside_io.specs.Count.{HasRisen}
 use Rattle.outside_io.specs.Files.{FilesState}
 use Rattle.outside_io.specs.Sink.{SinkState}
 use Rattle.plan_model.specs.declared.values.Compiled.{Compiled}
-use Rattle.outside_io.specs.command_words.Names.{Word, Names}
-use Rattle.outside_io.specs.command_words.Bounds.{most_slots}
-use Rattle.outside_io.specs.command_words.Words.{TranslationRequest, Request, to_translate, number_of, Asks}
-use Rattle.outside_io.proofs.command_words.Requests.{one_request}
+use Rattle.command_words.specs.Names.{Word, Names}
+use Rattle.command_words.specs.Bounds.{most_slots}
+use Rattle.command_words.specs.Words.{TranslationRequest, Request, to_translate, number_of, Asks}
+use Rattle.command_words.proofs.Requests.{one_request}
 use Rattle.htn_cli.specs.Texts.{Texts}
 use Rattle.htn_cli.specs.Refusal.{status_of, line_of}
 use Rattle.htn_cli.specs.Sent.{Told, TakesWhole, TakesThenFails, TakesThenStarves}

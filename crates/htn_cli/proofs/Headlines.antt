@@ -20,9 +20,9 @@ use Rattle.plan_proof.proofs.machine.Bounds.{loses_nothing}
 use Rattle.plan_proof.specs.OneGraph.{HaveOneGraph}
 use Rattle.plan_proof.proofs.one.OneGraph.{one_graph}
 use Rattle.bound_calc.specs.NoBound.{NamesCycle, spaced}
-use Rattle.outside_io.specs.command_words.Names.{Word}
-use Rattle.outside_io.specs.command_words.Words.{TranslationRequest, BoundRequest, ValidationRequest, Request, to_translate, to_bound, to_validate, number_of, Asks}
-use Rattle.outside_io.proofs.command_words.Requests.{one_request}
+use Rattle.command_words.specs.Names.{Word}
+use Rattle.command_words.specs.Words.{TranslationRequest, BoundRequest, ValidationRequest, Request, to_translate, to_bound, to_validate, number_of, Asks}
+use Rattle.command_words.proofs.Requests.{one_request}
 use Rattle.htn_cli.specs.Texts.{Texts}
 use Rattle.htn_cli.specs.Inputs.{IsToldToRead, IsToldToHold, AreToldToRead, HaveProblem}
 use Rattle.htn_cli.specs.Validation.{HaveTexts, AreConfirmed, RefuseTexts, validation_inputs}

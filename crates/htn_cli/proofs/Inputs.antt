@@ -5,8 +5,8 @@ use Rattle.outside_io.specs.Folder.{Folder, file_of}
 use Rattle.outside_io.specs.Files.{FilesState, GetGives, GetFails}
 use Rattle.plan_model.specs.declared.options.Checks.{Checks}
 use Rattle.plan_model.specs.declared.values.Compiled.{Compiled}
-use Rattle.outside_io.specs.command_words.Names.{Word}
-use Rattle.outside_io.specs.command_words.Words.{ValidationRequest}
+use Rattle.command_words.specs.Names.{Word}
+use Rattle.command_words.specs.Words.{ValidationRequest}
 use Rattle.htn_cli.specs.Faults.{limit_code, HaveLeastFault}
 use Rattle.htn_cli.specs.Inputs.{longest_input, IsInput, IsTooLarge, IsReached, IsFirstTooLarge, FailsToRead, HaveFault}
 use Rattle.htn_cli.specs.Validation.{HaveTexts, AreConfirmed, RefuseTexts, validation_inputs}

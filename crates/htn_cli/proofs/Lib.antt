@@ -19,7 +19,6 @@ pub mod OneAnswers
 pub mod StepsTaken
 pub mod TruthTold
 pub mod PlanTold
-pub mod WordsTold
 pub mod SomeCounts
 pub mod SomeInputs
 pub mod SomeProblem

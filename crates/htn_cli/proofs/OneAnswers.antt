@@ -1,9 +1,9 @@
 -- Words have one answer at most.
 use Rattle.std.proofs.Common.{List, sym, ◌∙◌, subst, inl, inr}
 use Rattle.outside_io.specs.Files.{FilesState}
-use Rattle.outside_io.specs.command_words.Names.{Word}
-use Rattle.outside_io.specs.command_words.Words.{Request, to_translate, to_bound, to_validate}
-use Rattle.outside_io.proofs.command_words.Requests.{one_request}
+use Rattle.command_words.specs.Names.{Word}
+use Rattle.command_words.specs.Words.{Request, to_translate, to_bound, to_validate}
+use Rattle.command_words.proofs.Requests.{one_request}
 use Rattle.htn_cli.specs.Answer.{Answer, IsAnswer, IsAnswerTo}
 use Rattle.htn_cli.specs.OneAnswer.{AreTold, TellTheSame, EachHasOneAnswer}
 use Rattle.htn_cli.proofs.OneBound.{one_bounded}

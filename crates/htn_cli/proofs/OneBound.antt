@@ -3,8 +3,8 @@ use Rattle.std.proofs.Common.{ℕ, ◌≡◌, ◌<◌, ◌≤◌, ◌^◌, List,
 use Rattle.outside_io.specs.Files.{FilesState}
 use Rattle.plan_model.specs.plan_meaning.Bound.{IsBound}
 use Rattle.bound_calc.specs.NoBound.{NamesCycle}
-use Rattle.outside_io.specs.command_words.Names.{Word}
-use Rattle.outside_io.specs.command_words.Words.{BoundRequest, to_bound}
+use Rattle.command_words.specs.Names.{Word}
+use Rattle.command_words.specs.Words.{BoundRequest, to_bound}
 use Rattle.htn_cli.specs.Answer.{Answer, refuses, writes, tells, confirms, IsAnswer}
 use Rattle.htn_cli.specs.Inputs.{HaveFault}
 use Rattle.htn_cli.specs.OneAnswer.{AreTold, TellTheSame, bound}

@@ -20,7 +20,7 @@ use Rattle.plan_proof.proofs.one.OneText.{texts-same}
 use Rattle.bound_calc.specs.stratifier.NamedCycle.{IsNamed}
 use Rattle.bound_calc.specs.stratifier.CycleWords.{cycle_words}
 use Rattle.bound_calc.specs.NoBound.{NamesCycle, spaced}
-use Rattle.outside_io.specs.command_words.Names.{Word}
+use Rattle.command_words.specs.Names.{Word}
 use Rattle.htn_cli.specs.Faults.{name_of, HaveLeastFault}
 use Rattle.htn_cli.specs.Inputs.{HaveFault, HaveProblem}
 use Rattle.htn_cli.specs.OneAnswer.{AreTold}

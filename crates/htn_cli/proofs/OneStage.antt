@@ -1,7 +1,7 @@
 -- Answers of one command by how far its run comes: an input that is too large, a fault, or a meaning of the texts and what follows from it.
 use Rattle.std.proofs.Common.{ℕ, nat_eq, ◌≡◌, if◌then◌else◌, List, ◌++◌, codes, decimal, refl, sym, ap, ◌∙◌}
 use Rattle.outside_io.specs.Files.{FilesState}
-use Rattle.outside_io.specs.command_words.Names.{Word}
+use Rattle.command_words.specs.Names.{Word}
 use Rattle.htn_cli.specs.Answer.{Answer, refuses}
 use Rattle.text_values.specs.FaultWords.{fault_word}
 use Rattle.htn_cli.specs.Faults.{IsNoLimit, limit_code, limit_word, place_text, fault_text}

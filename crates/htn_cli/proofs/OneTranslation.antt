@@ -7,9 +7,9 @@ use Rattle.plan_texts.specs.PrintedTexts.{domain_text, problem_text}
 use Rattle.plan_model.specs.plan_meaning.Bound.{IsBound}
 use Rattle.slot_encoding.specs.encoded_texts.FullyEncoded.{IsFullyEncoded}
 use Rattle.bound_calc.specs.NoBound.{NamesCycle}
-use Rattle.outside_io.specs.command_words.Names.{Word, Names}
-use Rattle.outside_io.specs.command_words.Bounds.{most_slots}
-use Rattle.outside_io.specs.command_words.Words.{TranslationRequest, to_translate, number_of}
+use Rattle.command_words.specs.Names.{Word, Names}
+use Rattle.command_words.specs.Bounds.{most_slots}
+use Rattle.command_words.specs.Words.{TranslationRequest, to_translate, number_of}
 use Rattle.htn_cli.specs.Answer.{Answer, refuses, writes, tells, confirms, IsGivenWithin, AreAskedFor, AreSlotsOf, manner_with, IsForSlots, IsAnswer}
 use Rattle.htn_cli.specs.Inputs.{HaveFault}
 use Rattle.htn_cli.specs.OneAnswer.{AreTold, TellTheSame, both_texts}

@@ -14,8 +14,8 @@ use Rattle.ground_state.specs.declared.verdict.FailWhy.{FailWhy}
 use Rattle.ground_state.specs.declared.verdict.FailWhy.TheVariants as why
 use Rattle.plan_texts.proofs.PlanSteps.{one-plan}
 use Rattle.plan_proof.proofs.texts.SameFailures.{spelled-fails}
-use Rattle.outside_io.specs.command_words.Names.{Word}
-use Rattle.outside_io.specs.command_words.Words.{ValidationRequest, to_validate}
+use Rattle.command_words.specs.Names.{Word}
+use Rattle.command_words.specs.Words.{ValidationRequest, to_validate}
 use Rattle.htn_cli.specs.Answer.{Answer, refuses, writes, tells, confirms, IsAnswer}
 use Rattle.htn_cli.specs.OneAnswer.{AreTold, TellTheSame}
 use Rattle.htn_cli.specs.Refusal.{cause_word}

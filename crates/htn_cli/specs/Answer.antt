@@ -5,9 +5,9 @@ use Rattle.std.specs.Prelude.{ℕ, ◌≡◌, ◌<◌, ◌≤◌, ◌^◌, ◌�
 use Rattle.outside_io.specs.Files.{FilesState}
 use Rattle.plan_model.specs.declared.values.Compiled.{Compiled}
 use Rattle.plan_model.specs.plan_meaning.Bound.{IsBound}
-use Rattle.outside_io.specs.command_words.Names.{Word, Names}
-use Rattle.outside_io.specs.command_words.Bounds.{most_slots}
-use Rattle.outside_io.specs.command_words.Words.{TranslationRequest, BoundRequest, Request, to_translate, to_bound, to_validate, number_of, Asks, AreOfAForm}
+use Rattle.command_words.specs.Names.{Word, Names}
+use Rattle.command_words.specs.Bounds.{most_slots}
+use Rattle.command_words.specs.Words.{TranslationRequest, BoundRequest, Request, to_translate, to_bound, to_validate, number_of, Asks, AreOfAForm}
 use Rattle.htn_cli.specs.Texts.{Texts, AreTranslated, AreTooLong}
 use Rattle.htn_cli.specs.Faults.{IsNoLimit, limit_code}
 use Rattle.htn_cli.specs.Inputs.{IsFirstTooLarge, HaveFault, HaveProblem, HaveBound, HaveCycle}

@@ -9,7 +9,7 @@ use Rattle.plan_model.specs.declared.values.Compiled.{Compiled}
 use Rattle.plan_model.specs.plan_meaning.Bound.{IsBound}
 use Rattle.plan_model.specs.plan_meaning.Compilation.{IsCompiled}
 use Rattle.bound_calc.specs.NoBound.{NamesCycle}
-use Rattle.outside_io.specs.command_words.Names.{Word}
+use Rattle.command_words.specs.Names.{Word}
 use Rattle.text_values.specs.Values.{IsValueOf}
 use Rattle.htn_cli.specs.Faults.{HaveLeastFault}
 use Rattle.htn_cli.specs.declared.faults.Place.{Place}

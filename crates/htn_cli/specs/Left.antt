@@ -4,9 +4,9 @@ use Rattle.outside_io.specs.Count.{Rises}
 use Rattle.outside_io.specs.Folder.{told_of, KeepsOthers}
 use Rattle.outside_io.specs.Files.{FilesState, PutFails}
 use Rattle.outside_io.specs.Sink.{SinkState}
-use Rattle.outside_io.specs.command_words.Names.{Word, Names}
+use Rattle.command_words.specs.Names.{Word, Names}
 use Rattle.htn_cli.specs.Texts.{Texts}
-use Rattle.outside_io.specs.command_words.Words.{Request, to_translate, to_bound, to_validate}
+use Rattle.command_words.specs.Words.{Request, to_translate, to_bound, to_validate}
 use Rattle.htn_cli.specs.Inputs.{FailsToRead}
 use Rattle.htn_cli.specs.Answer.{Answer, refuses, writes, tells, confirms, IsGivenWithin, IsAnswer}
 use Rattle.htn_cli.specs.Validation.{validation_inputs}

@@ -4,7 +4,7 @@
 use Rattle.std.specs.Prelude.{ℕ, ◌≡◌, List, Some}
 use Rattle.outside_io.specs.Folder.{Folder}
 use Rattle.outside_io.specs.Files.{FilesState}
-use Rattle.outside_io.specs.command_words.Names.{Word, Names}
+use Rattle.command_words.specs.Names.{Word, Names}
 use Rattle.htn_cli.specs.Texts.{Texts}
 use Rattle.htn_cli.specs.Answer.{Answer, refuses, writes, tells, confirms, IsAnswerTo}
 use Rattle.htn_cli.specs.Ending.{status_by, line_by}

@@ -24,8 +24,8 @@ use Rattle.plan_proof.specs.TextPlans.{IsPlanOf}
 use Rattle.plan_proof.specs.Headline.{Headline, HeadlineAtBound, LosesNothing}
 use Rattle.bound_calc.specs.stratifier.NamedCycle.{IsNamed}
 use Rattle.bound_calc.specs.stratifier.CycleWords.{cycle_line}
-use Rattle.outside_io.specs.command_words.Names.{Word}
-use Rattle.outside_io.specs.command_words.Words.{TranslationRequest, BoundRequest, ValidationRequest, Request, to_translate, to_bound, to_validate, number_of, AsksTranslation, Asks}
+use Rattle.command_words.specs.Names.{Word}
+use Rattle.command_words.specs.Words.{TranslationRequest, BoundRequest, ValidationRequest, Request, to_translate, to_bound, to_validate, number_of, AsksTranslation, Asks}
 use Rattle.htn_cli.specs.Inputs.{IsToldToRead, IsToldToHold, AreToldToRead}
 use Rattle.htn_cli.specs.Left.{slots_line, bound_line, valid_line, inputs_of}
 use Rattle.htn_cli.specs.Sent.{TakesWhole, Told}

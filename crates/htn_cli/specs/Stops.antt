@@ -11,9 +11,9 @@ use Rattle.plan_model.specs.plan_meaning.Bound.{IsBound}
 use Rattle.text_values.specs.PddlValues as pddl
 use Rattle.plan_model.specs.plan_meaning.Compilation.{IsCompiled}
 use Rattle.bound_calc.specs.NoBound.{NamesCycle}
-use Rattle.outside_io.specs.command_words.Names.{Word, Names}
-use Rattle.outside_io.specs.command_words.Bounds.{most_slots}
-use Rattle.outside_io.specs.command_words.Words.{ValidationRequest, number_of}
+use Rattle.command_words.specs.Names.{Word, Names}
+use Rattle.command_words.specs.Bounds.{most_slots}
+use Rattle.command_words.specs.Words.{ValidationRequest, number_of}
 use Rattle.htn_cli.specs.Texts.{Texts, AreTooLong, texts_of}
 use Rattle.htn_cli.specs.Printing.{AreWhole}
 use Rattle.htn_cli.specs.declared.translation.Made.{Made}

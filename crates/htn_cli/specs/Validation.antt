@@ -12,8 +12,8 @@ use Rattle.ground_state.specs.Runs.{cause}
 use Rattle.text_values.specs.TextFaults.{HaveNoFault, IsLeastFault}
 use Rattle.text_values.specs.PddlValues.{IsValueOf}
 use Rattle.plan_text.specs.Plans.{IsPlanFault, IsPlanRead}
-use Rattle.outside_io.specs.command_words.Names.{Word}
-use Rattle.outside_io.specs.command_words.Words.{ValidationRequest}
+use Rattle.command_words.specs.Names.{Word}
+use Rattle.command_words.specs.Words.{ValidationRequest}
 use Rattle.htn_cli.specs.Faults.{IsNoLimit, limit_code}
 use Rattle.htn_cli.specs.Inputs.{IsInput, IsFirstTooLarge}
 use Rattle.htn_cli.specs.declared.faults.Place.{Place}

@@ -1,6 +1,6 @@
 ghost use Rattle.std.specs.Prelude.{◌<◌, ◌^◌, IfErr, OnOk};
 ghost use Rattle.outside_io.specs.Seen.{Seen};
-ghost use Rattle.outside_io.specs.command_words.Words as words;
+ghost use Rattle.command_words.specs.Words as words;
 ghost use Rattle.htn_cli.specs.Ending.{Achieves};
 ghost use Rattle.htn_cli.specs.Left.{Leaves, bound_line};
 ghost use Rattle.htn_cli.specs.Sent.{TakesWhole};
@@ -9,7 +9,7 @@ ghost use Rattle.htn_cli.specs.Stops.{StopsPrint};
 use crate::problem::{bound_of, problem_from};
 use crate::refusal::Refusal;
 use crate::telling::tell_bound;
-use outside_io::command_words::Bounding;
+use command_words::Bounding;
 use outside_io::{Files, Sink, WriteError};
 use std::alloc::Global;
 

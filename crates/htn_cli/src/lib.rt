@@ -24,6 +24,6 @@ mod validation;
 pub use checked::Checked;
 pub use checking::check;
 pub use laws::{one_answer, some_answer};
-pub use outside_io::command_words::{Command, command};
+pub use command_words::{Command, command};
 pub use program::run;
 pub use status::Status;

@@ -2,9 +2,9 @@ ghost use Rattle.std.specs.Prelude.{ℕ, ◌≡◌, ◌≢◌, ◌↔◌, ◌⊎
 ghost use Rattle.outside_io.specs.Seen.{Seen};
 ghost use Rattle.outside_io.specs.Files.{GetHasFailed, PutHasFailed};
 ghost use Rattle.outside_io.specs.Sink.{WriteHasFailed};
-ghost use Rattle.outside_io.specs.command_words.Names.{words_of};
-ghost use Rattle.outside_io.specs.command_words.Bounds.{most_slots};
-ghost use Rattle.outside_io.specs.command_words.Words.{AreOfAForm};
+ghost use Rattle.command_words.specs.Names.{words_of};
+ghost use Rattle.command_words.specs.Bounds.{most_slots};
+ghost use Rattle.command_words.specs.Words.{AreOfAForm};
 ghost use Rattle.htn_cli.specs.Ending.{AskForBound, AskForSlots, AskForValidation, Ends, IsAnswered, IsBeforePuts, IsDone, IsOfAnAnswer, IsRefused, IsRefusedFor, IsUntouched};
 ghost use Rattle.htn_cli.specs.Promise.{HasBound, HasFinding, HasHeadline, HasPlan};
 
@@ -14,7 +14,7 @@ use crate::status::Status;
 use crate::telling::tell;
 use crate::translation::translate;
 use crate::validation::validate;
-use outside_io::command_words::{Asked, asked};
+use command_words::{Asked, asked};
 use outside_io::{Files, Sink};
 use std::alloc::Global;
 

@@ -1,6 +1,6 @@
 ghost use Rattle.std.specs.Prelude.{ℕ, ◌≡◌, ◌<◌, ◌≤◌, List, length, slice_get, Some, IfErr, OnOk};
 ghost use Rattle.outside_io.specs.Seen.{Seen};
-ghost use Rattle.outside_io.specs.command_words.Words as words;
+ghost use Rattle.command_words.specs.Words as words;
 ghost use Rattle.text_values.specs.form_spellings.SoundPddl.{IsSoundClassical};
 ghost use Rattle.htn_cli.specs.Ending.{Achieves};
 ghost use Rattle.htn_cli.specs.Inputs.{longest_input};
@@ -16,7 +16,7 @@ use crate::problem::read;
 use crate::refusal::Refusal;
 use crate::sending::send;
 use htn_base::Fault;
-use outside_io::command_words::Validation;
+use command_words::Validation;
 use outside_io::{Files, Sink, WriteError};
 use plan_model::Pddl;
 use std::alloc::Global;

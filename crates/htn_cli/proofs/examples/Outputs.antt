@@ -2,7 +2,7 @@ use Rattle.std.proofs.Common.{◌≡◌, ◌≢◌, Option, Some, None, refl, ap
 use Rattle.std.specs.Option.{option_map}
 use Rattle.outside_io.specs.Folder.{Folder, with_bytes, KeepsOthers}
 use Rattle.outside_io.specs.Files.{FilesState, PutGives, PutFails}
-use Rattle.outside_io.specs.command_words.Names.{Word, Names}
+use Rattle.command_words.specs.Names.{Word, Names}
 use Rattle.htn_cli.specs.Texts.{Texts}
 use Rattle.htn_cli.specs.Left.{KeepsAllBut, FirstStands, BothStand, SecondFails}
 

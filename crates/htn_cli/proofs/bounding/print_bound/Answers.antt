@@ -1,5 +1,5 @@
 use Rattle.std.proofs.lemmas.Result.{err_from_is_err_and}
-use Rattle.outside_io.specs.command_words.Words.{bound_of}
+use Rattle.command_words.specs.Words.{bound_of}
 use Rattle.htn_cli.proofs.Results.{on_ok_too, if_err_too}
 use Rattle.htn_cli.proofs.Leavings.{soundly, leaves_unread_bound, leaves_bound, achieves_bound, leaves_print}
 use Rattle.htn_cli.proofs.bounding.print_bound.Goals as goal

@@ -1,8 +1,8 @@
 use Rattle.std.proofs.Common.{◌≡◌, ap, rules, subst}
-use Rattle.outside_io.specs.command_words.Names.{words_of}
-use Rattle.outside_io.specs.command_words.Words.{Asks, translation_of, request_of}
-use Rattle.outside_io.specs.declared.command_words.asking.Asked.TheVariants as asked
-use Rattle.outside_io.proofs.command_words.Requests.{numeral_is}
+use Rattle.command_words.specs.Names.{words_of}
+use Rattle.command_words.specs.Words.{Asks, translation_of, request_of}
+use Rattle.command_words.specs.declared.asking.Asked.TheVariants as asked
+use Rattle.command_words.proofs.Requests.{numeral_is}
 use Rattle.htn_cli.proofs.program.act.Goals as goal
 
 pub translate-requires-clause-numeral : goal.translate-requires-clause-numeral

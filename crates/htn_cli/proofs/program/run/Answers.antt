@@ -1,5 +1,5 @@
 use Rattle.std.proofs.Common.{sym, ◌∙◌, inl, inr, ⊎_elim, arith, rules}
-use Rattle.outside_io.specs.command_words.Names.{words_of}
+use Rattle.command_words.specs.Names.{words_of}
 use Rattle.htn_cli.proofs.Texts.{Told-nothing}
 use Rattle.htn_cli.proofs.Headlines.{headline_done, bound_done, plan_done, finding_refused}
 use Rattle.htn_cli.proofs.Endings.{never_done, answered_refused, answered_done, past_all, past_slots, past_not_done, refused_for, write_fault, read_fault, shows, calm}

@@ -1,5 +1,5 @@
 use Rattle.std.proofs.lemmas.Result.{err_from_is_err_and}
-use Rattle.outside_io.specs.command_words.Words.{translation_of}
+use Rattle.command_words.specs.Words.{translation_of}
 use Rattle.htn_cli.proofs.Results.{on_ok_both, if_err_too}
 use Rattle.htn_cli.proofs.Leavings.{soundly, leaves_unread, is_within, leaves_given, leaves_made, achieves, leaves_delivery}
 use Rattle.htn_cli.proofs.translation.translate.Goals as goal

@@ -1,6 +1,6 @@
 use Rattle.std.proofs.Common.{refl}
 use Rattle.std.proofs.lemmas.Result.{err_from_is_err_and}
-use Rattle.outside_io.specs.command_words.Words as words
+use Rattle.command_words.specs.Words as words
 use Rattle.htn_cli.proofs.Results.{on_ok_too, if_err_too}
 use Rattle.htn_cli.proofs.Inputs.{stops_input_of_three, domain_reached, problem_reached, same_two, plan_reached, gives_plan, stops_plan}
 use Rattle.htn_cli.proofs.validation.confirm.Goals as goal

@@ -2,7 +2,7 @@ use Rattle.std.proofs.Common.{subst, sym}
 use Rattle.htn_base.specs.declared.fault.Fault.{Fault}
 use Rattle.text_forms.specs.declared.sexpr_text.read_error.ReadError.TheVariants.{Bad}
 use Rattle.plan_text.specs.Plans.{RefusesPlan}
-use Rattle.outside_io.specs.command_words.Words as words
+use Rattle.command_words.specs.Words as words
 use Rattle.htn_cli.specs.Checks.{IsChecked}
 use Rattle.htn_cli.specs.Validation.{IsLeastOfThree, most_steps, validation_inputs}
 use Rattle.htn_cli.proofs.Validations.{sound_runnable, confirmed_for, too_many_for, fails_for, least_of_plan}

@@ -1,5 +1,5 @@
 use Rattle.std.proofs.lemmas.Result.{err_from_is_err_and}
-use Rattle.outside_io.specs.command_words.Words.{validation_of}
+use Rattle.command_words.specs.Words.{validation_of}
 use Rattle.htn_cli.proofs.Results.{on_ok_too, if_err_too}
 use Rattle.htn_cli.proofs.Leavings.{leaves_unconfirmed, achieves_plan, leaves_valid}
 use Rattle.htn_cli.proofs.validation.validate.Goals as goal
