@@ -3,10 +3,10 @@ use Rattle.std.proofs.Common.{ℕ, ◌≡◌, ◌<◌, ◌≤◌, ◌^◌, ◌�
 use Rattle.outside_io.specs.Count.{HasRisen}
 use Rattle.outside_io.specs.Files.{FilesState}
 use Rattle.outside_io.specs.Sink.{SinkState}
-use Rattle.outside_io.specs.command_words.Names.{Word}
-use Rattle.outside_io.specs.command_words.Bounds.{most_slots}
-use Rattle.outside_io.specs.command_words.Words.{Request, to_translate, to_bound, to_validate, Asks, AreOfAForm}
-use Rattle.outside_io.proofs.command_words.Requests.{one_request}
+use Rattle.command_words.specs.Names.{Word}
+use Rattle.command_words.specs.Bounds.{most_slots}
+use Rattle.command_words.specs.Words.{Request, to_translate, to_bound, to_validate, Asks, AreOfAForm}
+use Rattle.command_words.proofs.Requests.{one_request}
 use Rattle.htn_cli.specs.Answer.{Text, Output, Answer, refuses, gives}
 use Rattle.htn_cli.specs.Answers.{Refuses, Gives, RefusesFault, RefusesSize, IsAnswerFor, past_slots, too_large, faulty, declined, given, IsAnswer}
 use Rattle.htn_cli.specs.Refusal.{status_of, line_of}
@@ -330,6 +330,9 @@ never_words (to_translate r) (d ∷ p ∷ []) x = x
 never_words (to_bound r) (d ∷ p ∷ []) x = x
 never_words (to_validate r) (d ∷ p ∷ l ∷ []) x = x
 never_words _ _ x = x
+
+pub no_words : (request : Request) (texts : List (List ℕ)) → IsAnswerFor request texts (refuses refused.Words) → ⊥
+no_words request texts is = not_words request texts (never_words request texts) (refuses refused.Words) is
 
 module _ (words : List Word) (old new : FilesState) (out out' : SinkState) where
   words_left : (request : Request) (refusal : Refusal) → Leaves request old new out out' refusal → status_of refusal ≡ status.Words → ⊥

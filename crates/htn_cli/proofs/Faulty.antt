@@ -3,7 +3,7 @@ use Rattle.std.proofs.Common.{ℕ, ◌≡◌, ◌<◌, List, [], ◌∷◌, Some
 use Rattle.htn_base.specs.declared.fault.Fault.{Fault}
 use Rattle.hddl_reader.specs.declared.sections.Language.{Language}
 use Rattle.text_values.specs.TextFaults.{IsLeastFault, in_domain, in_problem}
-use Rattle.outside_io.specs.command_words.Names.{Word}
+use Rattle.command_words.specs.Names.{Word}
 use Rattle.htn_cli.specs.Faults.{IsFaultAt, IsNoLimit, limit_code}
 use Rattle.htn_cli.specs.Stops.{IsRefusalOf, StopsFault, StopsPlan}
 use Rattle.htn_cli.specs.Validation.{IsLeastOfThree, of_problem, of_plan}

@@ -10,6 +10,9 @@ use Rattle.plan_texts.specs.FirstSeen.{IsHddlOf}
 use Rattle.plan_texts.specs.PrintedTexts.{domain_text, problem_text}
 use Rattle.plan_model.specs.plan_meaning.Compilation.{IsCompiled}
 use Rattle.plan_model.specs.plan_meaning.Bound.{IsBound}
+use Rattle.plan_model.specs.plan_meaning.Network.{network}
+use Rattle.slot_machine.proofs.SpellingSteps.{open_pending, pending_open}
+use Rattle.slot_machine.proofs.bound_laws.EveryFront.{every_front_is_within}
 use Rattle.plan_model.proofs.plan_meaning.FailingLaws.{each_is_plan_or_fails}
 use Rattle.ground_state.specs.Runs.{cause}
 use Rattle.ground_state.specs.declared.verdict.FailWhy.{FailWhy}
@@ -20,8 +23,8 @@ use Rattle.plan_proof.proofs.machine.Bounds.{loses_nothing}
 use Rattle.plan_proof.specs.OneGraph.{HaveOneGraph}
 use Rattle.plan_proof.proofs.one.OneGraph.{one_graph}
 use Rattle.bound_calc.specs.NoBound.{NamesCycle, spaced}
-use Rattle.outside_io.specs.command_words.Names.{Word}
-use Rattle.outside_io.specs.command_words.Words.{TranslationRequest, BoundRequest, ValidationRequest, Request, to_translate, to_bound, to_validate, number_of, Asks}
+use Rattle.command_words.specs.Names.{Word}
+use Rattle.command_words.specs.Words.{TranslationRequest, BoundRequest, ValidationRequest, Request, to_translate, to_bound, to_validate, number_of, Asks}
 use Rattle.htn_cli.specs.Answer.{Text, Output, Answer, refuses, gives, told_alone}
 use Rattle.htn_cli.specs.Answers.{Refuses, Gives, RefusesSize, RefusesFault, IsAnswerFor, past_slots, too_large, faulty, declined, given, IsAnswer}
 use Rattle.htn_cli.specs.Bounding.{RefusesBound, GivesBound}
@@ -108,6 +111,7 @@ module _ (request : TranslationRequest) (d p : List ℕ) (out out' : SinkState) 
       given = slots_given_here request.numeral written.source.slots_are;
       headline = headline_here;
       at_bound = at_bound_here;
+      open_leaves = λ h k s is tree order q scheduled. (pending_open (network k) tree order q scheduled, open_pending (network k) tree order q scheduled);
       nothing_lost = λ none h k s is. loses_nothing h request.checks k is slots (bound_of_each d p request.checks c source slots (slots_computed request.numeral none written.source.slots_are) h k s is) slots od op (omega arith) (headline_here h k s is);
     }
 
@@ -121,6 +125,7 @@ module _ (request : BoundRequest) (d p : List ℕ) (out out' : SinkState) (n : �
     bound = n;
     told = told;
     is = each;
+    every_front = λ h k s is tree order front. every_front_is_within h request.checks k is n (each h k s is) tree order front;
     nothing_lost = λ h k s is slots l style value printed. (
         let printed_here = printed_too d p h source.value request.checks k c slots style value s source.read.spelled printed source.compiled_is in
         loses_nothing h request.checks k is n (each h k s is) slots (domain_text value) (problem_text value) l

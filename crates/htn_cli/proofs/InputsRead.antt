@@ -3,7 +3,7 @@ use Rattle.std.proofs.Common.{ℕ, zero, suc, ◌≡◌, ◌<◌, ◌≤◌, Boo
 use Rattle.std.proofs.lemmas.List.{length-take}
 use Rattle.outside_io.specs.Folder.{Folder, file_of}
 use Rattle.outside_io.specs.Files.{FilesState, GetGives, GetFails}
-use Rattle.outside_io.specs.command_words.Names.{Word}
+use Rattle.command_words.specs.Names.{Word}
 use Rattle.htn_cli.specs.Inputs.{longest_input, AreShort, EndTooLarge, AreGot, FailsToRead}
 use Rattle.htn_cli.specs.Told.{Reads}
 use Rattle.htn_cli.specs.Stops.{GivesInput, StopsInput, GivesTexts, StopsReading}
@@ -57,12 +57,12 @@ module _ (files : FilesState) where
   got_more (first ∷ names) [] name bytes got e read = let f : first ≡ name = cc in (subst (λ z. Reads files z bytes) (sym f) read, tt)
   got_more (first ∷ names) (text ∷ texts) name bytes got e read = (got.0, got_more names texts name bytes got.1 e read)
 
-  end_large : (names : List Word) (texts : List (List ℕ)) (name word : Word) (bytes : List ℕ) → AreShort texts → slice_get names (length texts) ≡ Some name → word ≡ name
-      → longest_input < length bytes → EndTooLarge names (texts ++ bytes ∷ []) word
-  end_large [] texts name word bytes short e w past = absurd (cc)
-  end_large (first ∷ names) [] name word bytes short e w past = let f : first ≡ name = cc in (w ∙ sym f, past)
-  end_large (first ∷ names) (text ∷ []) name word bytes short e w past = (short.0, end_large names [] name word bytes tt e w past)
-  end_large (first ∷ names) (text ∷ more ∷ texts) name word bytes short e w past = (short.0, end_large names (more ∷ texts) name word bytes short.1 e w past)
+pub end_large : (names : List Word) (texts : List (List ℕ)) (name word : Word) (bytes : List ℕ) → AreShort texts → slice_get names (length texts) ≡ Some name → word ≡ name
+    → longest_input < length bytes → EndTooLarge names (texts ++ bytes ∷ []) word
+end_large [] texts name word bytes short e w past = absurd (cc)
+end_large (first ∷ names) [] name word bytes short e w past = let f : first ≡ name = cc in (w ∙ sym f, past)
+end_large (first ∷ names) (text ∷ []) name word bytes short e w past = (short.0, end_large names [] name word bytes tt e w past)
+end_large (first ∷ names) (text ∷ more ∷ texts) name word bytes short e w past = (short.0, end_large names (more ∷ texts) name word bytes short.1 e w past)
 
 -- the next input was not read, or is too large
 pub stops_next : (names : List Word) (texts : List (List ℕ)) (name : Word) (old mid new : FilesState) → GivesTexts names old mid texts → slice_get names (length texts) ≡ Some name
@@ -79,7 +79,7 @@ stops_next names texts name old mid new gives next (refused.Limit (limit.Bytes w
   (
     texts ++ bytes ∷ [],
     got_more old names texts name bytes gives.got next (subst (λ z. Reads z name bytes) gives.same read),
-    end_large old names texts name word.now bytes gives.short next w past,
+    end_large names texts name word.now bytes gives.short next w past,
   ),
   same ∙ gives.same,
 )
@@ -119,21 +119,21 @@ module _ (files : FilesState) where
   got_longer [] more (text ∷ texts) got = absurd got
   got_longer (name ∷ names) more (text ∷ texts) got = (got.0, got_longer names more texts got.1)
 
-  next_longer : (names more : List Word) (k : ℕ) (name : Word) → slice_get names k ≡ Some name → slice_get (names ++ more) k ≡ Some name
-  next_longer [] more k name e = absurd (cc)
-  next_longer (n ∷ names) more zero name e = e
-  next_longer (n ∷ names) more (suc k) name e = next_longer names more k name e
+pub next_longer : (names more : List Word) (k : ℕ) (name : Word) → slice_get names k ≡ Some name → slice_get (names ++ more) k ≡ Some name
+next_longer [] more k name e = absurd (cc)
+next_longer (n ∷ names) more zero name e = e
+next_longer (n ∷ names) more (suc k) name e = next_longer names more k name e
 
-  large_longer : (names more : List Word) (texts : List (List ℕ)) (word : Word) → EndTooLarge names texts word → EndTooLarge (names ++ more) texts word
-  large_longer [] more texts word large = absurd large
-  large_longer (name ∷ names) more [] word large = absurd large
-  large_longer (name ∷ names) more (text ∷ []) word large = large
-  large_longer (name ∷ names) more (text ∷ other ∷ texts) word large = (large.0, large_longer names more (other ∷ texts) word large.1)
+pub large_longer : (names more : List Word) (texts : List (List ℕ)) (word : Word) → EndTooLarge names texts word → EndTooLarge (names ++ more) texts word
+large_longer [] more texts word large = absurd large
+large_longer (name ∷ names) more [] word large = absurd large
+large_longer (name ∷ names) more (text ∷ []) word large = large
+large_longer (name ∷ names) more (text ∷ other ∷ texts) word large = (large.0, large_longer names more (other ∷ texts) word large.1)
 
 -- what stops the reading of some inputs stops that of more
 pub stops_longer : (names more : List Word) (old new : FilesState) (refusal : Refusal) → StopsReading names old new refusal → StopsReading (names ++ more) old new refusal
 stops_longer names more old new (refused.Failure (failure.Reading word)) stops =
-    record { texts = stops.texts; got = got_longer old names more stops.texts stops.got; short = stops.short; next = next_longer old names more _ word.now stops.next; fails = stops.fails }
+    record { texts = stops.texts; got = got_longer old names more stops.texts stops.got; short = stops.short; next = next_longer names more _ word.now stops.next; fails = stops.fails }
 stops_longer names more old new (refused.Failure failure.Memory) stops = stops
-stops_longer names more old new (refused.Limit (limit.Bytes word)) ((texts, got, large), same) = ((texts, got_longer old names more texts got, large_longer old names more texts word.now large), same)
+stops_longer names more old new (refused.Limit (limit.Bytes word)) ((texts, got, large), same) = ((texts, got_longer old names more texts got, large_longer names more texts word.now large), same)
 stops_longer names more old new _ stops = absurd stops

@@ -13,9 +13,9 @@ use Rattle.plan_model.specs.plan_meaning.Network.{top_task}
 use Rattle.plan_model.specs.plan_meaning.Schemas.{task}
 use Rattle.plan_model.specs.plan_meaning.Bound.{IsBound}
 use Rattle.bound_calc.specs.Soundly.{IsSoundlyCompiled}
-use Rattle.outside_io.specs.command_words.Names.{Word}
-use Rattle.outside_io.specs.command_words.Bounds.{most_slots}
-use Rattle.outside_io.specs.command_words.Words.{TranslationRequest, BoundRequest, ValidationRequest, Request, to_translate, to_bound, to_validate, number_of}
+use Rattle.command_words.specs.Names.{Word}
+use Rattle.command_words.specs.Bounds.{most_slots}
+use Rattle.command_words.specs.Words.{TranslationRequest, BoundRequest, ValidationRequest, Request, to_translate, to_bound, to_validate, number_of}
 use Rattle.htn_cli.specs.Answer.{Output, Answer, refuses, gives, told_alone}
 use Rattle.htn_cli.specs.Answers.{IsLeastOf, Refuses, Gives, RefusesFault, IsAnswerFor, past_slots, too_large, faulty, declined, given, IsAnswer}
 use Rattle.htn_cli.specs.Bounding.{GivesBound}

@@ -10,6 +10,7 @@ pub mod Validations
 pub mod SameCycles
 pub mod Endings
 pub mod Headlines
+pub mod CallsMade
 pub mod examples
 pub mod OneInput
 pub mod OneFault
@@ -21,7 +22,6 @@ pub mod OneAnswers
 pub mod StepsTaken
 pub mod TruthTold
 pub mod PlanTold
-pub mod WordsTold
 pub mod SomeCounts
 pub mod SomeInputs
 pub mod SomeProblem

@@ -3,7 +3,7 @@ use Rattle.std.proofs.Common.{ℕ, ◌≡◌, ◌<◌, ◌≤◌, ◌^◌, List,
 use Rattle.plan_model.specs.declared.values.Compiled.{Compiled}
 use Rattle.plan_model.specs.plan_meaning.Bound.{IsBound}
 use Rattle.bound_calc.specs.NoBound.{NamesCycle}
-use Rattle.outside_io.specs.command_words.Words.{BoundRequest}
+use Rattle.command_words.specs.Words.{BoundRequest}
 use Rattle.htn_cli.specs.Answer.{Output, Answer, refuses, gives, told_alone}
 use Rattle.htn_cli.specs.Bounding.{RefusesBound, GivesBound}
 use Rattle.htn_cli.specs.Lines.{bound_line}

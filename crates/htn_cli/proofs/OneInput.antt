@@ -3,7 +3,7 @@
 use Rattle.std.proofs.Common.{ℕ, ◌≡◌, Bool, List, [], ◌∷◌, length, Option, Some, None, IfSome, refl, sym, ap, ◌∙◌, arith}
 use Rattle.outside_io.specs.Folder.{Folder, file_of}
 use Rattle.outside_io.specs.Files.{FilesState}
-use Rattle.outside_io.specs.command_words.Names.{Word}
+use Rattle.command_words.specs.Names.{Word}
 use Rattle.htn_cli.specs.Inputs.{AreGot, AreWhole, EndTooLarge}
 use Rattle.htn_cli.specs.OneAnswer.{AreTold}
 use Rattle.htn_cli.specs.Told.{Reads}

@@ -4,7 +4,7 @@ use Rattle.std.specs.Option.{option_map}
 use Rattle.outside_io.specs.Folder.{Folder, with_bytes, told_of, KeepsOthers}
 use Rattle.outside_io.specs.Files.{FilesState, PutGives, PutFails}
 use Rattle.outside_io.specs.Sink.{SinkState}
-use Rattle.outside_io.specs.command_words.Names.{Word}
+use Rattle.command_words.specs.Names.{Word}
 use Rattle.htn_cli.specs.Answer.{Text, Output}
 use Rattle.htn_cli.specs.Left.{Stand, FailsToPut, StandInPart}
 use Rattle.htn_cli.specs.Sent.{TakesWhole}

@@ -1,6 +1,6 @@
 -- What a run answers: a refusal, or an output.
 use Rattle.std.specs.Prelude.{ℕ, ◌≡◌, ◌≤◌, List, [], ◌∷◌, length, map}
-use Rattle.outside_io.specs.command_words.Names.{Word}
+use Rattle.command_words.specs.Names.{Word}
 use Rattle.htn_cli.specs.declared.refusal.Refusal.{Refusal}
 
 -- the name of a file, and the text that it gets

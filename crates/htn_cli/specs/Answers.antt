@@ -5,8 +5,8 @@ use Rattle.std.specs.Prelude.{ℕ, ◌≡◌, ◌≤◌, ◌⊎◌, List, [], �
 use Rattle.hddl_reader.specs.declared.sections.Language.TheVariants as language
 use Rattle.outside_io.specs.Files.{FilesState}
 use Rattle.text_values.specs.TextFaults.{IsLeastFault}
-use Rattle.outside_io.specs.command_words.Names.{Word}
-use Rattle.outside_io.specs.command_words.Words.{Request, to_translate, to_bound, to_validate, Asks, AreOfAForm}
+use Rattle.command_words.specs.Names.{Word}
+use Rattle.command_words.specs.Words.{Request, to_translate, to_bound, to_validate, Asks, AreOfAForm}
 use Rattle.htn_cli.specs.Answer.{Output, Answer, refuses, gives}
 use Rattle.htn_cli.specs.Bounding.{RefusesBound, GivesBound}
 use Rattle.htn_cli.specs.Faults.{IsNoLimit, limit_code, IsFaultAt}

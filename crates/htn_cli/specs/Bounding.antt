@@ -1,7 +1,7 @@
 -- A bound, from the texts of a domain and of a problem: when it is refused, and what it gives.
 -- Source: this project's.
 use Rattle.std.specs.Prelude.{ℕ, ◌≡◌, ◌<◌, ◌≤◌, ◌^◌, List}
-use Rattle.outside_io.specs.command_words.Words.{BoundRequest}
+use Rattle.command_words.specs.Words.{BoundRequest}
 use Rattle.htn_cli.specs.Answer.{Output, told_alone}
 use Rattle.htn_cli.specs.Lines.{bound_line}
 use Rattle.htn_cli.specs.Problem.{HaveBound, HaveCycle}

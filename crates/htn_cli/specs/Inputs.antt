@@ -2,7 +2,7 @@
 -- Source: this project's.
 use Rattle.std.specs.Prelude.{ℕ, ◌≡◌, ◌<◌, ◌≤◌, List, [], ◌∷◌, Some, length, slice_get}
 use Rattle.outside_io.specs.Files.{FilesState, GetFails}
-use Rattle.outside_io.specs.command_words.Names.{Word}
+use Rattle.command_words.specs.Names.{Word}
 use Rattle.htn_cli.specs.Told.{Reads}
 
 -- the greatest length of an input text, in bytes

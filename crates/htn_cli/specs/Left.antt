@@ -5,8 +5,8 @@ use Rattle.outside_io.specs.Count.{Rises}
 use Rattle.outside_io.specs.Folder.{told_of}
 use Rattle.outside_io.specs.Files.{FilesState}
 use Rattle.outside_io.specs.Sink.{SinkState}
-use Rattle.outside_io.specs.command_words.Names.{Word}
-use Rattle.outside_io.specs.command_words.Words.{Request}
+use Rattle.command_words.specs.Names.{Word}
+use Rattle.command_words.specs.Words.{Request}
 use Rattle.htn_cli.specs.Answer.{Text, Output, Answer, refuses, gives, names_of}
 use Rattle.htn_cli.specs.Answers.{IsAnswer}
 use Rattle.htn_cli.specs.Inputs.{FailsToRead}

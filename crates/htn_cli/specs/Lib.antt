@@ -18,8 +18,10 @@ pub mod Ending
 pub mod OneAnswer
 pub mod SomeAnswer
 pub mod promise
+pub mod Passing
 pub mod Checks
 pub mod Line
 pub mod Printing
 pub mod Stops
 pub mod Made
+pub mod Calling

@@ -1,7 +1,7 @@
 -- The output of a command, as the program makes it.
 use Rattle.std.specs.Prelude.{ℕ, ◌≡◌, ◌≢◌, ◌⊎◌, List, [], ◌∷◌, Option, Some, None, IfSome}
 use Rattle.outside_io.specs.Files.{FilesState}
-use Rattle.outside_io.specs.command_words.Words.{TranslationRequest, Request}
+use Rattle.command_words.specs.Words.{TranslationRequest, Request}
 use Rattle.plan_model.specs.declared.values.Compiled.{Compiled}
 use Rattle.htn_cli.specs.Answer.{Text, Output, gives}
 use Rattle.htn_cli.specs.Answers.{IsAnswer}

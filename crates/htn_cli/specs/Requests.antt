@@ -1,9 +1,9 @@
 -- What each command reads and writes, and the number of slots that it is given: a line a command.
 -- Source: this project's.
 use Rattle.std.specs.Prelude.{ℕ, ◌≤◌, List, [], ◌∷◌, Option, None, IfSome, option_map}
-use Rattle.outside_io.specs.command_words.Names.{Word}
-use Rattle.outside_io.specs.command_words.Bounds.{most_slots}
-use Rattle.outside_io.specs.command_words.Words.{Request, to_translate, to_bound, to_validate, number_of}
+use Rattle.command_words.specs.Names.{Word}
+use Rattle.command_words.specs.Bounds.{most_slots}
+use Rattle.command_words.specs.Words.{Request, to_translate, to_bound, to_validate, number_of}
 
 -- its inputs, in the order in which they are read
 abbrev pub inputs_of : Request → List Word

@@ -10,11 +10,11 @@ use Rattle.text_values.specs.PddlValues as pddl
 use Rattle.hddl_reader.specs.declared.sections.Language.TheVariants as language
 use Rattle.text_values.specs.TextFaults.{IsLeastFault}
 use Rattle.bound_calc.specs.NoBound.{NamesCycle}
-use Rattle.outside_io.specs.command_words.Names.{Word, AreApart}
-use Rattle.outside_io.specs.command_words.Bounds.{most_slots, IsNumeral}
-use Rattle.outside_io.specs.command_words.Words.{Request, translation_of, number_of}
-use Rattle.outside_io.specs.declared.command_words.asking.Asked.{Asked}
-use Rattle.outside_io.specs.declared.command_words.asking.Asked.TheVariants as asked
+use Rattle.command_words.specs.Names.{Word, AreApart}
+use Rattle.command_words.specs.Bounds.{most_slots, IsNumeral}
+use Rattle.command_words.specs.Words.{Request, translation_of, number_of}
+use Rattle.command_words.specs.declared.asking.Asked.{Asked}
+use Rattle.command_words.specs.declared.asking.Asked.TheVariants as asked
 use Rattle.htn_cli.specs.Answer.{Text, Output, refuses}
 use Rattle.htn_cli.specs.Answers.{IsAnswer, RefusesFault, Refuses}
 use Rattle.htn_cli.specs.Faults.{IsFaultAt, IsNoLimit, limit_code}

@@ -2,7 +2,7 @@
 use Rattle.std.specs.Prelude.{ℕ, ◌≡◌, List, [], ◌∷◌, Some, IfSome, option_map}
 use Rattle.outside_io.specs.Folder.{file_of, told_of}
 use Rattle.outside_io.specs.Files.{FilesState}
-use Rattle.outside_io.specs.command_words.Names.{Word}
+use Rattle.command_words.specs.Names.{Word}
 
 -- a name reads as these bytes, where that is told
 abbrev pub Reads : FilesState → Word → List ℕ → Type 0

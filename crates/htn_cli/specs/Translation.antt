@@ -3,9 +3,9 @@
 use Rattle.std.specs.Prelude.{ℕ, ◌≡◌, ◌≤◌, List, [], ◌∷◌, Option, Some, None}
 use Rattle.plan_model.specs.declared.values.Compiled.{Compiled}
 use Rattle.plan_model.specs.plan_meaning.Bound.{IsBound}
-use Rattle.outside_io.specs.command_words.Names.{Word, Names}
-use Rattle.outside_io.specs.command_words.Bounds.{most_slots}
-use Rattle.outside_io.specs.command_words.Words.{TranslationRequest, number_of}
+use Rattle.command_words.specs.Names.{Word, Names}
+use Rattle.command_words.specs.Bounds.{most_slots}
+use Rattle.command_words.specs.Words.{TranslationRequest, number_of}
 use Rattle.htn_cli.specs.Answer.{Output}
 use Rattle.htn_cli.specs.Lines.{slots_line}
 use Rattle.htn_cli.specs.Problem.{SpellProblem, HaveBound, HaveCycle}

@@ -1,19 +1,20 @@
 ghost use Rattle.std.specs.Prelude.{◌≤◌, ◌<◌, ◌^◌, ◌≡◌, [], ◌∷◌, length, IfOk, IfErr};
 ghost use Rattle.outside_io.specs.Seen.{Seen};
-ghost use Rattle.outside_io.specs.command_words.Words as words;
-ghost use Rattle.htn_cli.specs.Answer.{told_alone};
+ghost use Rattle.command_words.specs.Words as words;
+ghost use Rattle.htn_cli.specs.Answer.{gives, told_alone};
 ghost use Rattle.htn_cli.specs.Bounding.{GivesBound};
 ghost use Rattle.htn_cli.specs.Inputs.{longest_input};
 ghost use Rattle.htn_cli.specs.Lines.{bound_line};
 ghost use Rattle.htn_cli.specs.Made.{GivesOutput, NamesDiffer, output_of};
+ghost use Rattle.htn_cli.specs.Calling.{PassesInputs, StopsInputs};
 ghost use Rattle.htn_cli.specs.Stops.{IsWant, StopsOutput, StopsTexts};
 
 use crate::output::{Output, bound_told};
 use crate::problem::{bound_of, compiled_from};
 use crate::reading::read_two;
 use crate::refusal::Refusal;
+use command_words::Bounding;
 use outside_io::Files;
-use outside_io::command_words::Bounding;
 use std::alloc::Global;
 
 /// What is told of a bound.
@@ -26,6 +27,10 @@ pub(crate) fn bounding<'a, F: Files>(
         (GivesOutput (words.to_bound (words.bound_of asked.now))) files.old files.new) }
     ensures refused { IfErr result (Seen F.state
         (StopsOutput (words.to_bound (words.bound_of asked.now))) files.old files.new) }
+    ensures passed { IfOk result (λ made. Seen F.passed (PassesInputs (words.to_bound (words.bound_of asked.now)))
+        files.old files.new (gives (output_of made))) }
+    ensures stopped { IfErr result (Seen F.passed
+        (StopsInputs (words.to_bound (words.bound_of asked.now))) files.old files.new) }
 {
     let sources = read_two(alloc, files, asked.d, asked.p)?;
     let output = bounded(

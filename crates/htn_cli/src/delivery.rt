@@ -1,8 +1,11 @@
-ghost use Rattle.std.specs.Prelude.{◌≢◌, IfErr, OnOk};
+ghost use Rattle.std.specs.Prelude.{◌≡◌, ◌≢◌, IfErr, OnOk};
 ghost use Rattle.outside_io.specs.Files.{PutGives};
 ghost use Rattle.outside_io.specs.Seen.{Seen};
 ghost use Rattle.htn_cli.specs.Left.{Stand, StandsUpTo};
 ghost use Rattle.htn_cli.specs.Made.{NamesDiffer, output_of, texts_in};
+ghost use Rattle.outside_io.specs.Calls.{stored};
+ghost use Rattle.outside_io.specs.Passed.{with_call};
+ghost use Rattle.htn_cli.specs.Passing.{CallsAre, puts};
 ghost use Rattle.htn_cli.specs.Sent.{TakesWhole};
 ghost use Rattle.htn_cli.specs.Stops.{StopsDelivery, StopsPrint, StopsPut, StopsPuts};
 
@@ -22,6 +25,8 @@ pub(crate) fn deliver<'a, F: Files, O: Sink>(
         (F.state files.old) (F.state files.new) (O.state out.old) (O.state out.new)) }
     ensures refused { IfErr result (StopsDelivery (output_of output.now)
         (F.state files.old) (F.state files.new) (O.state out.old) (O.state out.new)) }
+    ensures passed { OnOk result (Seen F.passed CallsAre files.old files.new
+        (puts (output_of output.now).texts)) }
 {
     match &output.written {
         None => print(out, output.told.as_slice()),
@@ -38,6 +43,8 @@ fn put_both<'a, F: Files>(files: &mut F, written: &Written<'a>) -> Result<(), Re
         (Seen F.state (Stand (texts_in written.now)) files.old files.new) }
     ensures refused { IfErr result
         (Seen F.state (StopsPuts (texts_in written.now)) files.old files.new) }
+    ensures passed { OnOk result
+        (Seen F.passed CallsAre files.old files.new (puts (texts_in written.now))) }
 {
     put(files, written.od, written.texts.domain.as_slice())?;
     put(files, written.op, written.texts.problem.as_slice())
@@ -46,6 +53,8 @@ fn put_both<'a, F: Files>(files: &mut F, written: &Written<'a>) -> Result<(), Re
 fn put<'a, F: Files>(files: &mut F, name: &'a str, text: &[u8]) -> Result<(), Refusal<'a>>
     ensures written { OnOk result (Seen F.state PutGives files.old files.new name.now text.now) }
     ensures refused { IfErr result (Seen F.state (StopsPut name.now) files.old files.new) }
+    ensures passed { OnOk result (F.passed files.new
+        ≡ with_call (F.passed files.old) (stored name.now text.now)) }
 {
     match files.put(name, text) {
         Ok(()) => Ok(()),

@@ -14,6 +14,7 @@ mod laws;
 mod manner;
 mod output;
 mod problem;
+mod process;
 mod program;
 mod reading;
 mod refusal;
@@ -26,7 +27,8 @@ mod validation;
 
 pub use checked::Checked;
 pub use checking::check;
+pub use command_words::{Command, command};
 pub use laws::{one_answer, some_answer};
-pub use outside_io::command_words::{Command, command};
+pub use process::ending;
 pub use program::run;
 pub use status::Status;

@@ -2,12 +2,15 @@ ghost use Rattle.std.specs.Prelude.{ℕ, ◌≡◌, ◌≢◌, ◌↔◌, ◌⊎
 ghost use Rattle.outside_io.specs.Seen.{Seen};
 ghost use Rattle.outside_io.specs.Files.{GetHasFailed, PutHasFailed};
 ghost use Rattle.outside_io.specs.Sink.{WriteHasFailed};
-ghost use Rattle.outside_io.specs.command_words.Names.{words_of};
-ghost use Rattle.outside_io.specs.command_words.Bounds.{most_slots};
-ghost use Rattle.outside_io.specs.command_words.Words.{AreOfAForm, request_of};
+ghost use Rattle.command_words.specs.Names.{words_of};
+ghost use Rattle.command_words.specs.Bounds.{most_slots};
+ghost use Rattle.command_words.specs.Words.{AreOfAForm, request_of};
 ghost use Rattle.htn_cli.specs.Ending.{Achieves, AskForNoFile, AskForSlots, Ends, IsAnswered, IsBeforePuts, IsDone, IsOfAnAnswer, IsRefused, IsRefusedFor, IsUntouched};
 ghost use Rattle.htn_cli.specs.Left.{Leaves};
-ghost use Rattle.htn_cli.specs.Made.{GivesOutput};
+ghost use Rattle.htn_cli.specs.Answer.{gives};
+ghost use Rattle.htn_cli.specs.Calling.{PassesInputs, PassesRequest, StopsInputs, StopsRequest};
+ghost use Rattle.htn_cli.specs.Made.{GivesOutput, output_of};
+ghost use Rattle.htn_cli.specs.Passing.{CallsAre, CallsBefore, PassesDone, PassesFinding, PassesRefused};
 ghost use Rattle.htn_cli.specs.Stops.{IsWellAsked, StopsOutput};
 ghost use Rattle.htn_cli.specs.promise.Headline.{HasHeadline};
 ghost use Rattle.htn_cli.specs.promise.Bound.{HasBound};
@@ -22,7 +25,7 @@ use crate::status::Status;
 use crate::telling::tell;
 use crate::translation::translation;
 use crate::validation::validation;
-use outside_io::command_words::{Asked, asked};
+use command_words::{Asked, asked};
 use outside_io::{Files, Sink};
 use std::alloc::Global;
 
@@ -58,6 +61,16 @@ pub fn run<F: Files, O: Sink, E: Sink>(
         (F.state files.old) (O.state out.old) (O.state out.new) }
     ensures finding { result ≡ Status.Finding → HasFinding (words_of words.now)
         (F.state files.old) (E.state err.old) (E.state err.new) }
+
+    // And it is true of the bytes that passed between the run and its files: the gets and the puts that
+    // it made are these, in this order.
+    ensures passed { result ≡ Status.Done → PassesDone (words_of words.now)
+        (CallsAre (F.passed files.old) (F.passed files.new)) (O.state out.old) (O.state out.new) }
+    ensures stopped { IsBeforePuts result → PassesRefused (words_of words.now)
+        (CallsAre (F.passed files.old) (F.passed files.new)) result
+        (E.state err.old) (E.state err.new) }
+    ensures found { result ≡ Status.Finding → PassesFinding (words_of words.now)
+        (CallsAre (F.passed files.old) (F.passed files.new)) (E.state err.old) (E.state err.new) }
 
     ensures quiet { result ≡ Status.Done → E.state err.new ≡ E.state err.old }
     ensures untouched { IsBeforePuts result →
@@ -109,6 +122,10 @@ fn act<'a, F: Files, O: Sink>(
         (F.state files.old) (F.state files.new) (O.state out.old) (O.state out.new)) }
     ensures refused { IfErr result (IsRefused (words_of words.now)
         (F.state files.old) (F.state files.new) (O.state out.old) (O.state out.new)) }
+    ensures passed { OnOk result (PassesDone (words_of words.now)
+        (CallsAre (F.passed files.old) (F.passed files.new)) (O.state out.old) (O.state out.new)) }
+    ensures stopped { IfErr result (CallsBefore (words_of words.now)
+        (CallsAre (F.passed files.old) (F.passed files.new))) }
 {
     match asked(words) {
         None => Err(Refusal::Words),
@@ -129,15 +146,19 @@ fn perform<'a, F: Files, O: Sink>(
         (request_of asked.now)) }
     ensures refused { IfErr result (Leaves (request_of asked.now)
         (F.state files.old) (F.state files.new) (O.state out.old) (O.state out.new)) }
+    ensures passed { OnOk result (PassesRequest (request_of asked.now)
+        (F.passed files.old) (F.passed files.new) (O.state out.old) (O.state out.new)) }
+    ensures stopped { IfErr result
+        (Seen F.passed (StopsRequest (request_of asked.now)) files.old files.new) }
 {
-    let output = output_of(alloc, asked, files)?;
+    let output = output_for(alloc, asked, files)?;
     let delivered = deliver(&output, files, out);
     drop(output);
     delivered
 }
 
 /// What is given for what is asked.
-fn output_of<'a, F: Files>(
+fn output_for<'a, F: Files>(
     alloc: Global,
     asked: &Asked<'a>,
     files: &mut F,
@@ -147,6 +168,10 @@ fn output_of<'a, F: Files>(
         (GivesOutput (request_of asked.now)) files.old files.new) }
     ensures refused { IfErr result (Seen F.state
         (StopsOutput (request_of asked.now)) files.old files.new) }
+    ensures passed { IfOk result (λ made. Seen F.passed (PassesInputs (request_of asked.now))
+        files.old files.new (gives (output_of made))) }
+    ensures stopped { IfErr result
+        (Seen F.passed (StopsInputs (request_of asked.now)) files.old files.new) }
 {
     match asked {
         Asked::Translation(asked) => translation(alloc, asked, files),

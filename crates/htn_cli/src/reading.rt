@@ -1,5 +1,9 @@
-ghost use Rattle.std.specs.Prelude.{[], ◌∷◌, IfOk, IfErr};
+ghost use Rattle.std.specs.Prelude.{◌≡◌, [], ◌∷◌, IfOk, IfErr};
 ghost use Rattle.outside_io.specs.Seen.{Seen};
+ghost use Rattle.outside_io.specs.Calls.{got};
+ghost use Rattle.outside_io.specs.Passed.{with_call};
+ghost use Rattle.htn_cli.specs.Calling.{StopsGet, StopsGets};
+ghost use Rattle.htn_cli.specs.Passing.{CallsAre, asked_bytes, gets};
 ghost use Rattle.htn_cli.specs.Stops.{GivesInput, GivesTexts, StopsInput, StopsReading};
 
 use crate::refusal::{Failure, Limit, Refusal};
@@ -38,6 +42,10 @@ pub(crate) fn read_two<'a, F: Files>(
         files.old files.new (s.domain.items ∷ s.problem.items ∷ [])) }
     ensures refused { IfErr result
         (Seen F.state (StopsReading (d.now ∷ p.now ∷ [])) files.old files.new) }
+    ensures passed { IfOk result (λ s. Seen F.passed CallsAre files.old files.new
+        (gets (d.now ∷ p.now ∷ []) (s.domain.items ∷ s.problem.items ∷ []))) }
+    ensures stopped { IfErr result
+        (Seen F.passed (StopsGets (d.now ∷ p.now ∷ [])) files.old files.new) }
 {
     let domain = read(alloc, files, d)?;
     let problem = read(alloc, files, p)?;
@@ -53,6 +61,9 @@ pub(crate) fn read<'a, F: Files>(
     ensures read { IfOk result (λ v.
         Seen F.state (GivesInput name.now) files.old files.new v.items) }
     ensures refused { IfErr result (Seen F.state (StopsInput name.now) files.old files.new) }
+    ensures passed { IfOk result (λ v. F.passed files.new
+        ≡ with_call (F.passed files.old) (got name.now asked_bytes v.items)) }
+    ensures stopped { IfErr result (Seen F.passed (StopsGet name.now) files.old files.new) }
 {
     match files.get(alloc, name, ASKED_BYTES) {
         Ok(bytes) => {

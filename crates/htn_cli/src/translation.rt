@@ -1,11 +1,13 @@
 ghost use Rattle.std.specs.Prelude.{◌≢◌, ◌≤◌, [], ◌∷◌, length, IfSome, IfOk, IfErr};
 ghost use Rattle.outside_io.specs.Seen.{Seen};
-ghost use Rattle.outside_io.specs.command_words.Names.{AreApart};
-ghost use Rattle.outside_io.specs.command_words.Bounds.{IsNumeral};
-ghost use Rattle.outside_io.specs.command_words.Words.{to_translate, translation_of};
+ghost use Rattle.command_words.specs.Names.{AreApart};
+ghost use Rattle.command_words.specs.Bounds.{IsNumeral};
+ghost use Rattle.command_words.specs.Words.{to_translate, translation_of};
 ghost use Rattle.bound_calc.specs.Soundly.{IsSoundlyCompiled};
+ghost use Rattle.htn_cli.specs.Answer.{gives};
 ghost use Rattle.htn_cli.specs.Inputs.{longest_input};
 ghost use Rattle.htn_cli.specs.Made.{GivesOutput, IsMadeFor, IsMadeWith, NamesDiffer, StopsMadeFor, manner_of, output_of};
+ghost use Rattle.htn_cli.specs.Calling.{PassesInputs, StopsInputs};
 ghost use Rattle.htn_cli.specs.Stops.{IsGiven, StopsOutput, StopsPrinted, StopsTexts};
 ghost use Rattle.htn_cli.specs.Translation.{GivesTranslation};
 
@@ -16,8 +18,8 @@ use crate::problem::compiled_from;
 use crate::reading::read_two;
 use crate::refusal::Refusal;
 use crate::slots::{given_slots, slots_for};
+use command_words::{Named, Translation};
 use outside_io::Files;
-use outside_io::command_words::{Named, Translation};
 use plan_model::Compiled;
 use std::alloc::Global;
 
@@ -33,6 +35,10 @@ pub(crate) fn translation<'a, F: Files>(
         (GivesOutput (to_translate (translation_of asked.now))) files.old files.new) }
     ensures refused { IfErr result (Seen F.state
         (StopsOutput (to_translate (translation_of asked.now))) files.old files.new) }
+    ensures passed { IfOk result (λ made. Seen F.passed (PassesInputs (to_translate (translation_of asked.now)))
+        files.old files.new (gives (output_of made))) }
+    ensures stopped { IfErr result (Seen F.passed
+        (StopsInputs (to_translate (translation_of asked.now))) files.old files.new) }
 {
     let given = given_slots(asked.numeral)?;
     let sources = read_two(alloc, files, asked.names.d, asked.names.p)?;

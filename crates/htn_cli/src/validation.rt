@@ -1,11 +1,12 @@
 ghost use Rattle.std.specs.Prelude.{◌≡◌, ◌<◌, ◌≤◌, [], ◌∷◌, length, slice_get, Some, OnOk, IfOk, IfErr};
 ghost use Rattle.outside_io.specs.Seen.{Seen};
-ghost use Rattle.outside_io.specs.command_words.Words as words;
+ghost use Rattle.command_words.specs.Words as words;
 ghost use Rattle.text_values.specs.form_spellings.SoundPddl.{IsSoundClassical};
-ghost use Rattle.htn_cli.specs.Answer.{told_alone};
+ghost use Rattle.htn_cli.specs.Answer.{gives, told_alone};
 ghost use Rattle.htn_cli.specs.Inputs.{longest_input};
 ghost use Rattle.htn_cli.specs.Lines.{valid_line};
 ghost use Rattle.htn_cli.specs.Made.{GivesOutput, NamesDiffer, output_of};
+ghost use Rattle.htn_cli.specs.Calling.{PassesInputs, StopsInputs};
 ghost use Rattle.htn_cli.specs.Stops.{IsConfirmedFor, IsWant, StopsFor, StopsOutput, StopsPlan};
 ghost use Rattle.htn_cli.specs.Validation.{AreConfirmed};
 
@@ -15,9 +16,9 @@ use crate::faults::{Place, refusal_for};
 use crate::output::{Output, valid_told};
 use crate::reading::{read, read_two};
 use crate::refusal::{Failure, Finding, Limit, Refusal};
+use command_words::Validation;
 use htn_base::Fault;
 use outside_io::Files;
-use outside_io::command_words::Validation;
 use plan_model::Pddl;
 use std::alloc::Global;
 use text_forms::sexpr_text::ReadError;
@@ -39,6 +40,10 @@ pub(crate) fn validation<'a, F: Files>(
         (GivesOutput (words.to_validate (words.validation_of asked.now))) files.old files.new) }
     ensures refused { IfErr result (Seen F.state
         (StopsOutput (words.to_validate (words.validation_of asked.now))) files.old files.new) }
+    ensures passed { IfOk result (λ made. Seen F.passed (PassesInputs (words.to_validate (words.validation_of asked.now)))
+        files.old files.new (gives (output_of made))) }
+    ensures stopped { IfErr result (Seen F.passed
+        (StopsInputs (words.to_validate (words.validation_of asked.now))) files.old files.new) }
 {
     let sources = read_two(alloc, files, asked.pd, asked.pp)?;
     let plan = read(alloc, files, asked.plan)?;

@@ -1,7 +1,11 @@
-pub mod command_words
 pub mod Count
 pub mod Seen
 pub mod Folder
+pub mod Calls
+pub mod Passed
 pub mod Files
 pub mod Sink
 pub mod Untold
+pub mod Disk
+pub mod Streams
+pub mod Noted

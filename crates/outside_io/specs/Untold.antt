@@ -1,4 +1,4 @@
--- Files and a sink of which nothing is told but the counts.
+-- Files of which nothing is told but the counts, and what a refused call counts.
 use Rattle.std.specs.Prelude.{ℕ, None, false}
 use Rattle.outside_io.specs.Count.{one_more}
 use Rattle.outside_io.specs.Files.{FilesState}
@@ -13,10 +13,6 @@ use Rattle.outside_io.specs.declared.sink.WriteError.TheVariants as write
 -- files of which only the counts of faults are told
 abbrev pub untold_files : ℕ → ℕ → FilesState
 untold_files get_faults put_faults = record { held = None; get_faults = get_faults; put_faults = put_faults; failed = None; lenient = false }
-
--- a sink of which only the counts are told
-abbrev pub untold_sink : ℕ → ℕ → SinkState
-untold_sink faults refused = record { written = None; faults = faults; refused = refused }
 
 -- the files with a refused get counted
 abbrev pub counted_get : FilesState → GetError → FilesState

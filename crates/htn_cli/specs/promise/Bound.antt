@@ -5,12 +5,17 @@ use Rattle.outside_io.specs.Files.{FilesState}
 use Rattle.outside_io.specs.Sink.{SinkState}
 use Rattle.plan_model.specs.declared.options.Style.{Style}
 use Rattle.plan_model.specs.declared.values.Pddl.{Pddl}
+use Rattle.plan_model.specs.task_networks.Tree.{Tree, Address}
+use Rattle.plan_model.specs.task_networks.Front.{IsFront}
+use Rattle.plan_model.specs.task_networks.Pending.{IsWithin}
+use Rattle.plan_model.specs.plan_meaning.Network.{network}
+use Rattle.plan_model.specs.plan_meaning.Solution.{top_work}
 use Rattle.plan_model.specs.plan_meaning.Bound.{IsBound}
 use Rattle.plan_texts.specs.PrintedTexts.{domain_text, problem_text}
 use Rattle.slot_encoding.specs.Printed.{IsPrinted}
 use Rattle.plan_proof.specs.Headline.{LosesNothing}
-use Rattle.outside_io.specs.command_words.Names.{Word}
-use Rattle.outside_io.specs.command_words.Words.{BoundRequest, AsksBound}
+use Rattle.command_words.specs.Names.{Word}
+use Rattle.command_words.specs.Words.{BoundRequest, AsksBound}
 use Rattle.htn_cli.specs.Told.{AreToldToRead}
 use Rattle.htn_cli.specs.Lines.{bound_line}
 use Rattle.htn_cli.specs.Sent.{TakesWhole}
@@ -21,6 +26,9 @@ pub record TellsBound (request : BoundRequest) (d p : List ℕ) (out out' : Sink
   pub bound : ℕ
   pub told : TakesWhole (bound_line bound) out out'
   pub is : ForEach d p request.checks (λ h c. IsBound c bound)
+  -- no front, executable or not, has more pending at any time
+  pub every_front : ForEach d p request.checks (λ h c. (tree : Tree (network c)) (order : List Address)
+      → IsFront (network c) (top_work c) tree order → IsWithin (network c) bound tree order)
   pub nothing_lost : ForEach d p request.checks (λ h c. (slots : ℕ) → bound ≤ slots → (style : Style) (value : Pddl)
       → IsPrinted h request.checks c slots style value → LosesNothing c slots (domain_text value) (problem_text value))
 

@@ -15,8 +15,8 @@ use Rattle.ground_state.specs.declared.verdict.FailWhy.{FailWhy}
 use Rattle.plan_proof.specs.TextPlans.{IsPlanOf}
 use Rattle.bound_calc.specs.stratifier.NamedCycle.{IsNamed}
 use Rattle.bound_calc.specs.stratifier.CycleWords.{cycle_line}
-use Rattle.outside_io.specs.command_words.Names.{Word}
-use Rattle.outside_io.specs.command_words.Words.{Request, to_translate, to_bound, to_validate, Asks}
+use Rattle.command_words.specs.Names.{Word}
+use Rattle.command_words.specs.Words.{Request, to_translate, to_bound, to_validate, Asks}
 use Rattle.htn_cli.specs.Told.{AreToldToRead}
 use Rattle.htn_cli.specs.Requests.{inputs_of}
 use Rattle.htn_cli.specs.Refusal.{line_of}

@@ -3,9 +3,11 @@
 use Rattle.std.specs.Prelude.{ℕ, ◌≡◌, List, None, IfSome}
 use Rattle.outside_io.specs.Files.{FilesState}
 use Rattle.outside_io.specs.Sink.{SinkState}
+use Rattle.plan_model.specs.plan_meaning.Network.{network}
+use Rattle.slot_machine.specs.Laws.{PendingAreOpenLeaves}
 use Rattle.plan_proof.specs.Headline.{Headline, HeadlineAtBound, LosesNothing}
-use Rattle.outside_io.specs.command_words.Names.{Word}
-use Rattle.outside_io.specs.command_words.Words.{TranslationRequest, number_of, AsksTranslation}
+use Rattle.command_words.specs.Names.{Word}
+use Rattle.command_words.specs.Words.{TranslationRequest, number_of, AsksTranslation}
 use Rattle.htn_cli.specs.Told.{IsToldToRead, IsToldToHold}
 use Rattle.htn_cli.specs.Lines.{slots_line}
 use Rattle.htn_cli.specs.Sent.{TakesWhole}
@@ -18,6 +20,8 @@ pub record KeepsPlans (request : TranslationRequest) (d p od op : List ℕ) (out
   pub given : IfSome request.numeral (λ numeral. slots ≡ number_of numeral)
   pub headline : Headline d p request.checks slots od op
   pub at_bound : HeadlineAtBound d p request.checks slots od op
+  -- after a whole schedule what is pending are the open leaves
+  pub open_leaves : ForEach d p request.checks (λ h c. PendingAreOpenLeaves (network c))
   -- without a given number of slots no schedule of any solution is lost
   pub nothing_lost : request.numeral ≡ None → ForEach d p request.checks (λ h c. LosesNothing c slots od op)
 

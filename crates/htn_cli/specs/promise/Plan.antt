@@ -6,8 +6,8 @@ use Rattle.outside_io.specs.Sink.{SinkState}
 use Rattle.plan_model.specs.declared.steps.GroundAction.{GroundAction}
 use Rattle.plan_texts.specs.PlanText.{SpellsPlan}
 use Rattle.plan_proof.specs.TextPlans.{IsPlanOf}
-use Rattle.outside_io.specs.command_words.Names.{Word}
-use Rattle.outside_io.specs.command_words.Words.{ValidationRequest, AsksValidation}
+use Rattle.command_words.specs.Names.{Word}
+use Rattle.command_words.specs.Words.{ValidationRequest, AsksValidation}
 use Rattle.htn_cli.specs.Told.{AreToldToRead}
 use Rattle.htn_cli.specs.Lines.{valid_line}
 use Rattle.htn_cli.specs.Sent.{TakesWhole}

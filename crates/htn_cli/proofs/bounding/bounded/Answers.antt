@@ -1,5 +1,5 @@
 use Rattle.std.proofs.lemmas.Result.{err_from_is_err_and}
-use Rattle.outside_io.specs.command_words.Words.{bound_of}
+use Rattle.command_words.specs.Words.{bound_of}
 use Rattle.htn_cli.proofs.Results.{if_ok_too}
 use Rattle.htn_cli.proofs.Leavings.{soundly, bound_not_computed, gives_bound}
 use Rattle.htn_cli.proofs.bounding.bounded.Goals as goal

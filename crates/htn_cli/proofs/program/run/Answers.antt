@@ -1,8 +1,9 @@
 use Rattle.std.proofs.Common.{sym, ◌∙◌, inl, inr, ⊎_elim, arith}
-use Rattle.outside_io.specs.command_words.Names.{words_of}
+use Rattle.command_words.specs.Names.{words_of}
 use Rattle.htn_cli.proofs.Texts.{Told-nothing}
 use Rattle.htn_cli.proofs.Headlines.{headline_done, bound_done, plan_done, finding_refused}
 use Rattle.htn_cli.proofs.Endings.{never_done, answered_refused, answered_done, past_all, past_slots_too, past_not_done, stays_done, stays_refused, words_refused, refused_for, write_fault, read_fault, shows, calm}
+use Rattle.htn_cli.proofs.CallsMade.{passes_finding}
 use Rattle.htn_cli.proofs.program.run.Goals as goal
 
 -- what was asked for was done
@@ -102,3 +103,13 @@ returns-in-Ok-clause-inputs_stay g c = λ asks. stays_done _ _ _ _ _ c.in-Ok.ens
 pub returns-in-Err-clause-inputs_stay : goal.returns-in-Err-clause-inputs_stay
 returns-in-Err-clause-inputs_stay g c =
     λ asks. stays_refused (words_of c.args.words.now) (g.F.Files.state c.args.files.now) (g.F.Files.state c.act.new.files) (g.O.Sink.state c.args.out.now) (g.O.Sink.state c.act.new.out) c.in-Err.refusal c.in-Err.ensures.refused asks
+
+pub returns-in-Err-clause-found : goal.returns-in-Err-clause-found
+returns-in-Err-clause-found g c =
+    λ e. passes_finding (words_of c.args.words.now) (g.F.Files.passed c.args.files.now) (g.F.Files.passed c.act.new.files) c.in-Err.refusal c.in-Err.ensures.stopped (sym c.status-status.ensures ∙ e) _ _ c.tell.ensures.told
+
+pub returns-in-Err-clause-passed : goal.returns-in-Err-clause-passed
+returns-in-Err-clause-passed g c = λ e. absurd (never_done c.in-Err.refusal (sym c.status-status.ensures ∙ e))
+
+pub returns-in-Err-clause-stopped : goal.returns-in-Err-clause-stopped
+returns-in-Err-clause-stopped g c = λ _. record { refusal = c.in-Err.refusal; status_is = c.status-status.ensures; told = c.tell.ensures.told; calls = c.in-Err.ensures.stopped }

@@ -1,4 +1,4 @@
-use Rattle.outside_io.specs.command_words.Words.{translation_of}
+use Rattle.command_words.specs.Words.{translation_of}
 use Rattle.htn_cli.proofs.Results.{if_ok_too, if_err_too}
 use Rattle.htn_cli.proofs.Leavings.{soundly, gives_made_for, stops_made_for}
 use Rattle.htn_cli.proofs.translation.translated.Goals as goal

@@ -1,0 +1,5 @@
+pub mod Numerals
+pub mod Said
+pub mod Requests
+pub mod Told
+pub mod examples

@@ -1,0 +1,186 @@
+-- It is told which request words ask for, or that they ask for none.
+use Rattle.std.proofs.Common.{ℕ, ◌≡◌, ◌≤◌, ◌⊎◌, inl, inr, true, false, true≢false, List, [], ◌∷◌, ◌++◌, length, ◌+◌, take, drop, get_or, Option, Some, None, refl, sym, ap, subst, ◌∙◌, arith}
+use Rattle.std.specs.Char.{is_ascii_digit}
+use Rattle.std.specs.List.{Contains, list_all, list_any}
+use Rattle.std.specs.Str.{bytes_eq}
+use Rattle.std.specs.Str.Parse.{digits_value}
+use Rattle.std.proofs.lemmas.Bool.{cases_Bool, cases_lt}
+use Rattle.std.proofs.lemmas.List.{take-append-drop, length-append, length-take-le}
+use Rattle.std.proofs.Math.Seq.{drop-append_seam}
+use Rattle.std.proofs.lemmas.Slice.Eq.{bytes_eq-Decides}
+use Rattle.command_words.specs.Names.{Word, Names, AreApart}
+use Rattle.command_words.specs.Bounds.{IsNumeral}
+use Rattle.command_words.specs.Forms.{Row, said, AreOptions, AreOf, translation_form, bound_form, validation_form}
+use Rattle.command_words.specs.Options.{AreSlots, slots_said, style_said, checks_said}
+use Rattle.command_words.specs.Words.{TranslationRequest, BoundRequest, ValidationRequest, to_translate, to_bound, to_validate, AskBy, SayTranslation, SayBound, SayValidation, AsksTranslation, AsksBound, AsksValidation, AreOfAForm}
+use Rattle.command_words.proofs.Said.{among_told}
+use Rattle.command_words.proofs.Requests.{not_said, no_form}
+
+abbrev Or_not : Type 0 → Type 0
+Or_not P = P ⊎ (P → ⊥)
+
+other_than : {P : Type 0} → Or_not P → Or_not (P → ⊥)
+other_than (inl p) = inr (λ n. n p)
+other_than (inr n) = inl n
+
+both : {P Q : Type 0} → Or_not P → Or_not Q → Or_not (P × Q)
+both (inl p) (inl q) = inl (p, q)
+both (inr n) d = inr (λ h. n h.0)
+both (inl p) (inr n) = inr (λ h. n h.1)
+
+-- a value of an option, or none
+value_told : {V : Type 0} (o : Option V) → ((v : V) × (o ≡ Some v)) ⊎ ((v : V) → o ≡ Some v → ⊥)
+value_told None = inr (λ v e. cc)
+value_told (Some v) = inl (v, refl)
+
+none_told : {A : Type 0} (o : Option A) → Or_not (o ≡ None)
+none_told None = inl refl
+none_told (Some x) = inr (λ e. cc)
+
+at_most_told : (a b : ℕ) → Or_not (a ≤ b)
+at_most_told a b = elim (cases_lt b a) [ inl l ↦ inr (λ k. omega (arith, l, k)) | inr k ↦ inl k ]
+
+same_told : (v w : Word) → Or_not (v ≡ w)
+same_told v w = elim (cases_Bool (bytes_eq v w)) [
+  | inl t ↦ inl ((bytes_eq-Decides v w).0 t)
+  | inr f ↦ inr (λ e. true≢false (sym ((bytes_eq-Decides v w).1 e) ∙ f))
+]
+
+has_or_not : (options : List Word) (name : Word) → Or_not (Contains options name)
+has_or_not options name = elim (cases_Bool (list_any (bytes_eq name) options)) [
+  | inl t ↦ inl ((among_told options name).0 t)
+  | inr f ↦ inr (λ h. true≢false (sym ((among_told options name).1 h) ∙ f))
+]
+
+options_told : (options words : List Word) → Or_not (AreOptions options words)
+options_told options [] = inl tt
+options_told options (_ ∷ []) = inr (λ a. a)
+options_told options (name ∷ value ∷ words) = elim (both (has_or_not options name) (both (none_told (said name words)) (options_told options words))) [
+  | inl h ↦ inl (h.0, h.1.0, h.1.1)
+  | inr n ↦ inr (λ a. n (a.0, (a.1, a.2)))
+]
+
+-- the parts of words by a form
+module _ (form : Row) where
+  abbrev PartsTold : List Word → Type 0
+  PartsTold words = ((names options : List Word) × AreOf form words names options) ⊎ ((names options : List Word) → AreOf form words names options → ⊥)
+
+  behind : (more : List Word) → form.names ≤ length more → AreOptions form.options (drop form.names more) → (names options : List Word) × AreOf form (form.command ∷ more) names options
+  behind more room allowed = (
+    take form.names more,
+    drop form.names more,
+    record { spelled = ap (λ z. form.command ∷ z) (sym (take-append-drop form.names more)); counted = length-take-le form.names more room; allowed = allowed },
+  )
+
+  cut : (w : Word) (more names options : List Word) → AreOf form (w ∷ more) names options → (w ≡ form.command) × (form.names ≤ length more) × AreOptions form.options (drop form.names more)
+  cut w more names options of =
+      let e : more ≡ names ++ options = ap (drop 1) of.spelled in
+      let l : length more ≡ length names + length options = ap length e ∙ length-append names options in
+      let d : drop form.names more ≡ options = ap (λ k. drop k more) (sym of.counted) ∙ ap (drop (length names)) e ∙ drop-append_seam names options in
+      (ap (λ z. get_or z 0 []) of.spelled, omega (arith, l, of.counted), subst (AreOptions form.options) (sym d) of.allowed)
+
+  parts_told : (words : List Word) → PartsTold words
+  parts_told [] = inr (λ names options of. let e = of.spelled in cc)
+  parts_told (w ∷ more) = elim (both (same_told w form.command) (both (at_most_told form.names (length more)) (options_told form.options (drop form.names more)))) [
+    | inl (is, (room, allowed)) ↦ inl (subst (λ z. (names options : List Word) × AreOf form (z ∷ more) names options) (sym is) (behind more room allowed))
+    | inr n ↦ inr (λ names options of. let c = cut w more names options of in n (c.0, (c.1, c.2)))
+  ]
+
+  told_by : {R : Type 0} (Say : List Word → List Word → R → Type 0) → ((n o : List Word) → ((r : R) × Say n o r) ⊎ ((r : R) → Say n o r → ⊥))
+      → (words : List Word) → ((r : R) × AskBy form Say words r) ⊎ ((r : R) → AskBy form Say words r → ⊥)
+  told_by Say says words = elim (parts_told words) [
+    | inl (names, options, of) ↦ elim (says names options) [ inl (r, s) ↦ inl (r, (names, options, of, s)) | inr n ↦ inr (not_said form Say words names options of n) ]
+    | inr n ↦ inr (λ r asks. n asks.0 asks.1 asks.2)
+  ]
+
+numeral_told : (w : Word) → Or_not (IsNumeral w)
+numeral_told w = go (cases_Bool (list_all is_ascii_digit w)) (at_most_told 1 (length w)) (at_most_told (length w) 39) (at_most_told 1 (digits_value 10 w))
+  where
+    go : (list_all is_ascii_digit w ≡ true) ⊎ (list_all is_ascii_digit w ≡ false) → Or_not (1 ≤ length w) → Or_not (length w ≤ 39) → Or_not (1 ≤ digits_value 10 w) → Or_not (IsNumeral w)
+    go (inl a) (inl b) (inl c) (inl d) = inl (record { digits = a; some = b; few = c; above_zero = d })
+    go (inr a) b c d = inr (λ n. true≢false (sym n.digits ∙ a))
+    go (inl a) (inr n) c d = inr (λ z. n z.some)
+    go (inl a) (inl b) (inr n) d = inr (λ z. n z.few)
+    go (inl a) (inl b) (inl c) (inr n) = inr (λ z. n z.above_zero)
+
+slots_told : (o : Option Word) → Or_not (AreSlots o)
+slots_told None = inl tt
+slots_told (Some w) = numeral_told w
+
+apart_told : (n : Names) → Or_not (AreApart n)
+apart_told n = elim (both (other_than (same_told n.printed_domain n.printed_problem))
+    (both (both (other_than (same_told n.printed_domain n.domain)) (other_than (same_told n.printed_domain n.problem)))
+    (both (other_than (same_told n.printed_problem n.domain)) (other_than (same_told n.printed_problem n.problem))))) [
+      | inl h ↦ inl (record { outputs = h.0; domain = h.1.0; problem = h.1.1 })
+      | inr m ↦ inr (λ a. m (a.outputs, (a.domain, a.problem)))
+    ]
+
+-- what names and options say
+abbrev SaysTold : {R : Type 0} → (List Word → List Word → R → Type 0) → List Word → List Word → Type 0
+SaysTold {R} Say names options = ((r : R) × Say names options r) ⊎ ((r : R) → Say names options r → ⊥)
+
+module _ (options : List Word) where
+  translation_of_four : (n : Names) → SaysTold SayTranslation (n.domain ∷ n.problem ∷ n.printed_domain ∷ n.printed_problem ∷ []) options
+  translation_of_four n = go (both (apart_told n) (slots_told (slots_said options))) (value_told (style_said options)) (value_told (checks_said options))
+    where
+      same : (r : TranslationRequest) → SayTranslation (n.domain ∷ n.problem ∷ n.printed_domain ∷ n.printed_problem ∷ []) options r → r.names ≡ n
+      same r s = let e = sym s.files in λ i. record { domain = get_or (e i) 0 []; problem = get_or (e i) 1 []; printed_domain = get_or (e i) 2 []; printed_problem = get_or (e i) 3 [] }
+
+      go : Or_not (AreApart n × AreSlots (slots_said options)) → ((v : _) × (style_said options ≡ Some v)) ⊎ ((v : _) → style_said options ≡ Some v → ⊥)
+          → ((v : _) × (checks_said options ≡ Some v)) ⊎ ((v : _) → checks_said options ≡ Some v → ⊥)
+          → SaysTold SayTranslation (n.domain ∷ n.problem ∷ n.printed_domain ∷ n.printed_problem ∷ []) options
+      go (inl h) (inl s) (inl c) = inl (
+        record { names = n; numeral = slots_said options; style = s.0; checks = c.0 },
+        record { files = refl; numeral = refl; slots = h.1; style = s.1; checks = c.1; apart = h.0 },
+      )
+      go (inr m) s c = inr (λ r a. m (subst AreApart (same r a) a.apart, subst AreSlots a.numeral a.slots))
+      go (inl h) (inr m) c = inr (λ r a. m r.style a.style)
+      go (inl h) (inl s) (inr m) = inr (λ r a. m r.checks a.checks)
+
+  not_four : (names : List Word) → (length names ≡ 4 → ⊥) → (r : TranslationRequest) → SayTranslation names options r → ⊥
+  not_four names l r a = l (ap length a.files)
+
+  translation_told : (names : List Word) → SaysTold SayTranslation names options
+  translation_told [] = inr (not_four [] (λ e. omega (arith, e)))
+  translation_told (d ∷ []) = inr (not_four (d ∷ []) (λ e. omega (arith, e)))
+  translation_told (d ∷ p ∷ []) = inr (not_four (d ∷ p ∷ []) (λ e. omega (arith, e)))
+  translation_told (d ∷ p ∷ e ∷ []) = inr (not_four (d ∷ p ∷ e ∷ []) (λ k. omega (arith, k)))
+  translation_told (d ∷ p ∷ e ∷ q ∷ []) = translation_of_four (record { domain = d; problem = p; printed_domain = e; printed_problem = q })
+  translation_told (d ∷ p ∷ e ∷ q ∷ x ∷ names) = inr (not_four (d ∷ p ∷ e ∷ q ∷ x ∷ names) (λ k. omega (arith, k)))
+
+  not_two : (names : List Word) → (length names ≡ 2 → ⊥) → (r : BoundRequest) → SayBound names options r → ⊥
+  not_two names l r a = l (ap length a.files)
+
+  bound_told : (names : List Word) → SaysTold SayBound names options
+  bound_told [] = inr (not_two [] (λ e. omega (arith, e)))
+  bound_told (d ∷ []) = inr (not_two (d ∷ []) (λ e. omega (arith, e)))
+  bound_told (d ∷ p ∷ []) = elim (value_told (checks_said options)) [
+    | inl c ↦ inl (record { domain = d; problem = p; checks = c.0 }, record { files = refl; checks = c.1 })
+    | inr m ↦ inr (λ r a. m r.checks a.checks)
+  ]
+  bound_told (d ∷ p ∷ x ∷ names) = inr (not_two (d ∷ p ∷ x ∷ names) (λ e. omega (arith, e)))
+
+  not_three : (names : List Word) → (length names ≡ 3 → ⊥) → (r : ValidationRequest) → SayValidation names options r → ⊥
+  not_three names l r a = l (ap length a.files)
+
+  validation_told : (names : List Word) → SaysTold SayValidation names options
+  validation_told [] = inr (not_three [] (λ e. omega (arith, e)))
+  validation_told (d ∷ []) = inr (not_three (d ∷ []) (λ e. omega (arith, e)))
+  validation_told (d ∷ p ∷ []) = inr (not_three (d ∷ p ∷ []) (λ e. omega (arith, e)))
+  validation_told (d ∷ p ∷ s ∷ []) = inl (record { domain = d; problem = p; plan = s }, record { files = refl })
+  validation_told (d ∷ p ∷ s ∷ x ∷ names) = inr (not_three (d ∷ p ∷ s ∷ x ∷ names) (λ e. omega (arith, e)))
+
+abbrev pub FormTold : List Word → Type 0
+FormTold words = AreOfAForm words ⊎ (AreOfAForm words → ⊥)
+
+pub form_told : (words : List Word) → FormTold words
+form_told words =
+    go (told_by translation_form SayTranslation (λ n o. translation_told o n) words) (told_by bound_form SayBound (λ n o. bound_told o n) words) (told_by validation_form SayValidation (λ n o. validation_told o n) words)
+  where
+    go : ((r : TranslationRequest) × AsksTranslation words r) ⊎ ((r : TranslationRequest) → AsksTranslation words r → ⊥)
+        → ((r : BoundRequest) × AsksBound words r) ⊎ ((r : BoundRequest) → AsksBound words r → ⊥)
+        → ((r : ValidationRequest) × AsksValidation words r) ⊎ ((r : ValidationRequest) → AsksValidation words r → ⊥) → FormTold words
+    go (inl (r, a)) b c = inl (to_translate r, a)
+    go (inr n) (inl (r, a)) c = inl (to_bound r, a)
+    go (inr n) (inr m) (inl (r, a)) = inl (to_validate r, a)
+    go (inr n) (inr m) (inr k) = inr (no_form words n m k)

@@ -1,0 +1,60 @@
+-- Worked words of the command line.
+use Rattle.std.proofs.Common.{List, [], ◌∷◌, Some, codes, refl, ap, get_or, arith, lit≤, lit<}
+use Rattle.plan_model.specs.declared.options.Style.TheVariants.{Flat}
+use Rattle.plan_model.specs.declared.options.Checks.TheVariants.{Leaf, AtOnce}
+use Rattle.command_words.specs.Names.{Word, Names, names_in, AreApart}
+use Rattle.command_words.specs.Forms.{AreOptions, translation_form, bound_form}
+use Rattle.command_words.specs.Words.{TranslationRequest, to_translate, to_bound, to_validate, AsksTranslation, AsksBound, AreOfAForm}
+
+abbrev files : Names
+files = record { domain = codes "d.hddl"; problem = codes "p.hddl"; printed_domain = codes "od.pddl"; printed_problem = codes "op.pddl" }
+
+files_apart : AreApart files
+files_apart =
+    record { outputs = λ e. grind (arith, e); domain = (λ e. grind (arith, e), λ e. grind (arith, e)); problem = (λ e. grind (arith, e), λ e. grind (arith, e)) }
+
+-- a translation with one slot and flat conditions, and its checks at leaves
+abbrev options : List Word
+options = codes "--style" ∷ codes "flat" ∷ codes "--bound" ∷ codes "1" ∷ []
+
+abbrev request : TranslationRequest
+request = record { names = files; numeral = Some (codes "1"); style = Flat; checks = Leaf }
+
+one_slot : AsksTranslation (codes "translate" ∷ codes "d.hddl" ∷ codes "p.hddl" ∷ codes "od.pddl" ∷ codes "op.pddl" ∷ options) request
+one_slot = (
+  names_in files,
+  options,
+  record { spelled = refl; counted = refl; allowed = ((1, lit< tt, refl), refl, ((0, lit< tt, refl), refl, tt)) },
+  record { files = refl; numeral = refl; slots = record { digits = refl; some = lit≤ tt; few = lit≤ tt; above_zero = lit≤ tt }; style = refl; checks = refl; apart = files_apart },
+)
+
+-- a bound with its checks at once
+at_once : AsksBound (codes "bound" ∷ codes "d" ∷ codes "p" ∷ codes "--checks" ∷ codes "atonce" ∷ []) record { domain = codes "d"; problem = codes "p"; checks = AtOnce }
+at_once = (
+  codes "d" ∷ codes "p" ∷ [],
+  codes "--checks" ∷ codes "atonce" ∷ [],
+  record { spelled = refl; counted = refl; allowed = ((0, lit< tt, refl), refl, tt) },
+  record { files = refl; checks = refl },
+)
+
+-- an option without a value, one that is there twice, and one that the command does not have
+no_value : AreOptions translation_form.options (codes "--bound" ∷ []) → ⊥
+no_value are = are
+
+twice : AreOptions bound_form.options (codes "--checks" ∷ codes "leaf" ∷ codes "--checks" ∷ codes "leaf" ∷ []) → ⊥
+twice are = let e = are.1 in cc
+
+-- an output that is an input is refused
+same_name : (options : List Word) → AreOfAForm (codes "translate" ∷ codes "d.hddl" ∷ codes "p.hddl" ∷ codes "d.hddl" ∷ codes "op.pddl" ∷ options) → ⊥
+same_name options (to_bound r, (n, o, of, says)) = let e = ap (λ z. get_or z 0 []) of.spelled in absurd (grind (arith, e))
+same_name options (to_validate r, (n, o, of, says)) = let e = ap (λ z. get_or z 0 []) of.spelled in absurd (grind (arith, e))
+same_name options (to_translate r, (n, o, of, says)) =
+    let d = ap (λ z. get_or z 1 []) of.spelled in
+    let od = ap (λ z. get_or z 3 []) of.spelled in
+    let m = says.files in
+    says.apart.domain.0 cc
+
+no_words : AreOfAForm [] → ⊥
+no_words (to_translate r, (n, o, of, says)) = let e = of.spelled in cc
+no_words (to_bound r, (n, o, of, says)) = let e = of.spelled in cc
+no_words (to_validate r, (n, o, of, says)) = let e = of.spelled in cc

@@ -1,0 +1,35 @@
+-- The options of commands. One that takes a number of slots has a numeral; the others have a table of the words that are their values.
+use Rattle.std.specs.Prelude.{List, [], ◌∷◌, Option, Some, None, IfSome, codes, find, option_map}
+use Rattle.std.specs.Str.{bytes_eq}
+use Rattle.plan_model.specs.declared.options.Style.{Style}
+use Rattle.plan_model.specs.declared.options.Style.TheVariants.{Adl, Flat}
+use Rattle.plan_model.specs.declared.options.Checks.{Checks}
+use Rattle.plan_model.specs.declared.options.Checks.TheVariants.{Leaf, AtOnce}
+use Rattle.command_words.specs.Names.{Word}
+use Rattle.command_words.specs.Bounds.{IsNumeral}
+use Rattle.command_words.specs.Forms.{said}
+
+-- the value of a word by a table, or this one where no word is given
+abbrev pub value_by : {V : Type 0} → List (Word × V) → V → Option Word → Option V
+value_by table default None = Some default
+value_by table default (Some word) = option_map (λ line. line.1) (find (λ line. bytes_eq word line.0) table)
+
+abbrev pub style_words : List (Word × Style)
+style_words = (codes "adl", Adl) ∷ (codes "flat", Flat) ∷ []
+
+abbrev pub checks_words : List (Word × Checks)
+checks_words = (codes "leaf", Leaf) ∷ (codes "atonce", AtOnce) ∷ []
+
+-- What words say by an option, from the words of all options.
+
+abbrev pub slots_said : List Word → Option Word
+slots_said options = said (codes "--bound") options
+
+abbrev pub AreSlots : Option Word → Type 0
+AreSlots word = IfSome word IsNumeral
+
+abbrev pub style_said : List Word → Option Style
+style_said options = value_by style_words Adl (said (codes "--style") options)
+
+abbrev pub checks_said : List Word → Option Checks
+checks_said options = value_by checks_words Leaf (said (codes "--checks") options)

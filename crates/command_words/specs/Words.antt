@@ -1,0 +1,111 @@
+-- What the words of the command line ask for.
+use Rattle.std.specs.Prelude.{ℕ, ◌≡◌, List, [], ◌∷◌, Option, Some, option_copied}
+use Rattle.std.specs.Str.Parse.{digits_value}
+use Rattle.plan_model.specs.declared.options.Style.{Style}
+use Rattle.plan_model.specs.declared.options.Checks.{Checks}
+use Rattle.command_words.specs.declared.asking.Translation.{Translation}
+use Rattle.command_words.specs.declared.asking.Bounding.{Bounding}
+use Rattle.command_words.specs.declared.asking.Validation.{Validation}
+use Rattle.command_words.specs.declared.asking.Asked.{Asked}
+use Rattle.command_words.specs.declared.asking.Asked.TheVariants as asked
+use Rattle.command_words.specs.declared.commands.Command.{Command}
+use Rattle.command_words.specs.declared.commands.Command.TheVariants.{Translate, Bound, Validate}
+use Rattle.command_words.specs.Names.{Word, Names, names_of, names_in, AreApart}
+use Rattle.command_words.specs.Forms.{Row, AreOf, translation_form, bound_form, validation_form}
+use Rattle.command_words.specs.Options.{AreSlots, slots_said, style_said, checks_said}
+
+-- a translation that is asked for: its files, the numeral of its slots where one is given, its style, and how preconditions of methods
+-- are checked
+pub record TranslationRequest : Type 0 where
+  pub names : Names
+  pub numeral : Option Word
+  pub style : Style
+  pub checks : Checks
+
+-- a bound that is asked for: the files that are read, and how preconditions of methods are checked
+pub record BoundRequest : Type 0 where
+  pub domain : Word
+  pub problem : Word
+  pub checks : Checks
+
+-- a validation that is asked for: the PDDL texts and the plan, which are read
+pub record ValidationRequest : Type 0 where
+  pub domain : Word
+  pub problem : Word
+  pub plan : Word
+
+pub data Request : Type 0 where
+  to_translate : TranslationRequest → Request
+  to_bound : BoundRequest → Request
+  to_validate : ValidationRequest → Request
+
+-- words of a form, of which the names and the options say a request
+abbrev pub AskBy : {R : Type 0} → Row → (List Word → List Word → R → Type 0) → List Word → R → Type 0
+AskBy form Say words request = (names options : List Word) × AreOf form words names options × Say names options request
+
+-- a translation keeps its inputs; its numeral is that of the option, its style is ADL and its checks are leaves where no option says more
+pub record SayTranslation (names options : List Word) (request : TranslationRequest) : Type 0 where
+  pub files : names ≡ names_in request.names
+  pub numeral : request.numeral ≡ slots_said options
+  pub slots : AreSlots request.numeral
+  pub style : style_said options ≡ Some request.style
+  pub checks : checks_said options ≡ Some request.checks
+  pub apart : AreApart request.names
+
+pub record SayBound (names options : List Word) (request : BoundRequest) : Type 0 where
+  pub files : names ≡ request.domain ∷ request.problem ∷ []
+  pub checks : checks_said options ≡ Some request.checks
+
+pub record SayValidation (names options : List Word) (request : ValidationRequest) : Type 0 where
+  pub files : names ≡ request.domain ∷ request.problem ∷ request.plan ∷ []
+
+-- the words ask for this
+abbrev pub AsksTranslation : List Word → TranslationRequest → Type 0
+AsksTranslation = AskBy translation_form SayTranslation
+
+abbrev pub AsksBound : List Word → BoundRequest → Type 0
+AsksBound = AskBy bound_form SayBound
+
+abbrev pub AsksValidation : List Word → ValidationRequest → Type 0
+AsksValidation = AskBy validation_form SayValidation
+
+abbrev pub Asks : List Word → Request → Type 0
+Asks words (to_translate request) = AsksTranslation words request
+Asks words (to_bound request) = AsksBound words request
+Asks words (to_validate request) = AsksValidation words request
+
+-- the words are of a command's form
+abbrev pub AreOfAForm : List Word → Type 0
+AreOfAForm words = (request : Request) × Asks words request
+
+-- the number that a numeral says
+abbrev pub number_of : Word → ℕ
+number_of numeral = digits_value 10 numeral
+
+-- what is asked for, by its words
+
+abbrev pub translation_of : Translation → TranslationRequest
+translation_of t = record { names = names_of t.names; numeral = option_copied t.numeral; style = t.style; checks = t.checks }
+
+abbrev pub bound_of : Bounding → BoundRequest
+bound_of b = record { domain = b.d.now; problem = b.p.now; checks = b.checks }
+
+abbrev pub validation_of : Validation → ValidationRequest
+validation_of v = record { domain = v.pd.now; problem = v.pp.now; plan = v.plan.now }
+
+abbrev pub request_of : Asked → Request
+request_of (asked.Translation t) = to_translate (translation_of t)
+request_of (asked.Bound b) = to_bound (bound_of b)
+request_of (asked.Validation v) = to_validate (validation_of v)
+
+-- the words ask for this command
+abbrev pub AskFor : List Word → Command → Type 0
+AskFor words (Translate d p od op bound style checks) =
+    AsksTranslation words record {
+      names = record { domain = d.now; problem = p.now; printed_domain = od.now; printed_problem = op.now };
+      numeral = option_copied bound;
+      style = style;
+      checks = checks;
+    }
+AskFor words (Bound d p checks) = AsksBound words record { domain = d.now; problem = p.now; checks = checks }
+AskFor words (Validate pd pp plan) = AsksValidation words record { domain = pd.now; problem = pp.now; plan = plan.now }

@@ -1,0 +1,36 @@
+use crate::names::Named;
+use plan_model::{Checks, Style};
+
+/// What is asked for.
+#[derive(Clone, Copy)]
+pub enum Asked<'a> {
+    Translation(Translation<'a>),
+    Bound(Bounding<'a>),
+    Validation(Validation<'a>),
+}
+
+/// A translation that is asked for: its files, the numeral of its slots where one is given, its
+/// style and its checks of preconditions.
+#[derive(Clone, Copy)]
+pub struct Translation<'a> {
+    pub names: Named<'a>,
+    pub numeral: Option<&'a str>,
+    pub style: Style,
+    pub checks: Checks,
+}
+
+/// A bound that is asked for: the files that are read, and the checks of preconditions.
+#[derive(Clone, Copy)]
+pub struct Bounding<'a> {
+    pub d: &'a str,
+    pub p: &'a str,
+    pub checks: Checks,
+}
+
+/// A validation that is asked for: the PDDL domain and problem, and the plan, which are read.
+#[derive(Clone, Copy)]
+pub struct Validation<'a> {
+    pub pd: &'a str,
+    pub pp: &'a str,
+    pub plan: &'a str,
+}

@@ -1,0 +1,19 @@
+//! The words of the command line: the command that they ask for, and the number of slots in it.
+//!
+//! Stands on the options of `plan_model`. The contract used above: `asked` answers exactly what the words ask for,
+//! and `None` exactly where they are of no command's form; `command` gives it as a command.
+#![tactic(auto)]
+
+mod asking;
+mod bounds;
+mod commands;
+mod forms;
+mod names;
+mod options;
+mod words;
+
+pub use asking::{Asked, Bounding, Translation, Validation};
+pub use bounds::{Bound, bound_of, comes_to};
+pub use commands::Command;
+pub use names::Named;
+pub use words::{asked, command};

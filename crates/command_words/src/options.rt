@@ -1,0 +1,49 @@
+ghost use Rattle.std.specs.Prelude.{◌≡◌, ◌↔◌, IsTrue};
+ghost use Rattle.std.specs.Option.{option_copied};
+ghost use Rattle.command_words.specs.Names.{words_of};
+ghost use Rattle.command_words.specs.Options.{AreSlots, checks_said, slots_said, style_said};
+
+use crate::bounds::is_numeral;
+use crate::forms::said;
+use plan_model::{Checks, Style};
+
+/// The word for a number of slots, where the options have one.
+pub(crate) fn slots(options: &[String]) -> Option<&str>
+    ensures { option_copied result ≡ slots_said (words_of options.now) }
+{
+    said("--bound", options)
+}
+
+/// Whether the word, where there is one, is a number of slots.
+pub(crate) fn are_slots(word: Option<&str>) -> bool
+    ensures { IsTrue result ↔ AreSlots (option_copied word.entry) }
+{
+    match word {
+        Some(word) => is_numeral(word),
+        None => true,
+    }
+}
+
+/// The style that the options say; `None` where its word is of no style.
+pub(crate) fn style(options: &[String]) -> Option<Style>
+    ensures { result ≡ style_said (words_of options.now) }
+{
+    match said("--style", options) {
+        None => Some(Style::Adl),
+        Some(word) if word == "adl" => Some(Style::Adl),
+        Some(word) if word == "flat" => Some(Style::Flat),
+        Some(_) => None,
+    }
+}
+
+/// The checks that the options say; `None` where their word is of no checks.
+pub(crate) fn checks(options: &[String]) -> Option<Checks>
+    ensures { result ≡ checks_said (words_of options.now) }
+{
+    match said("--checks", options) {
+        None => Some(Checks::Leaf),
+        Some(word) if word == "leaf" => Some(Checks::Leaf),
+        Some(word) if word == "atonce" => Some(Checks::AtOnce),
+        Some(_) => None,
+    }
+}

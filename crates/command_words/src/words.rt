@@ -1,0 +1,143 @@
+ghost use Rattle.std.specs.Prelude.{IfSome, IfNone};
+ghost use Rattle.command_words.specs.Names.{words_of};
+ghost use Rattle.command_words.specs.Words.{AreOfAForm, AskFor, Asks, AsksBound, AsksTranslation, AsksValidation, BoundRequest, SayBound, SayTranslation, SayValidation, TranslationRequest, ValidationRequest, bound_of, request_of, translation_of, validation_of};
+
+use crate::asking::{Asked, Bounding, Translation, Validation};
+use crate::commands::Command;
+use crate::forms::{BOUND, TRANSLATION, VALIDATION, parts_of};
+use crate::names::{Named, are_apart};
+use crate::options::{are_slots, checks, slots, style};
+
+/// The command that the words ask for; `None` exactly where the words are of no command's form.
+/// It takes no memory.
+///
+/// The forms are `translate D P OD OP` with the options `--bound N`, `--style adl|flat` and
+/// `--checks leaf|atonce`, where OD and OP differ and neither is D or P, `bound D P` with the
+/// option `--checks leaf|atonce`, and `validate PD PP PLAN`. Options come in any order and may be left out: the style is then
+/// `adl`, and the checks are `leaf`.
+pub fn command(words: &[String]) -> Option<Command<'_>>
+    ensures asked { IfSome result (AskFor (words_of words.now)) }
+    ensures formless { IfNone result (AreOfAForm (words_of words.now) → ⊥) }
+{
+    match asked(words)? {
+        Asked::Translation(asked) => Some(Command::Translate {
+            d: asked.names.d,
+            p: asked.names.p,
+            od: asked.names.od,
+            op: asked.names.op,
+            bound: asked.numeral,
+            style: asked.style,
+            checks: asked.checks,
+        }),
+        Asked::Bound(asked) => Some(Command::Bound {
+            d: asked.d,
+            p: asked.p,
+            checks: asked.checks,
+        }),
+        Asked::Validation(asked) => Some(Command::Validate {
+            pd: asked.pd,
+            pp: asked.pp,
+            plan: asked.plan,
+        }),
+    }
+}
+
+/// What the words ask for; `None` exactly where the words are of no command's form. It takes no
+/// memory.
+pub fn asked(words: &[String]) -> Option<Asked<'_>>
+    ensures asked { IfSome result (λ asked. Asks (words_of words.now) (request_of asked)) }
+    ensures formless { IfNone result (AreOfAForm (words_of words.now) → ⊥) }
+{
+    if let Some(asked) = asked_translation(words) {
+        return Some(Asked::Translation(asked));
+    }
+    if let Some(asked) = asked_bound(words) {
+        return Some(Asked::Bound(asked));
+    }
+    let asked = asked_validation(words)?;
+    Some(Asked::Validation(asked))
+}
+
+fn asked_translation(words: &[String]) -> Option<Translation<'_>>
+    ensures asked { IfSome result (λ asked.
+        AsksTranslation (words_of words.now) (translation_of asked)) }
+    ensures other { IfNone result ((request : TranslationRequest) →
+        AsksTranslation (words_of words.now) request → ⊥) }
+{
+    let parts = parts_of(words, &TRANSLATION)?;
+    translation(parts.names, parts.options)
+}
+
+fn translation<'a>(names: &'a [String], options: &'a [String]) -> Option<Translation<'a>>
+    ensures said { IfSome result (λ asked.
+        SayTranslation (words_of names.now) (words_of options.now) (translation_of asked)) }
+    ensures other { IfNone result ((request : TranslationRequest) →
+        SayTranslation (words_of names.now) (words_of options.now) request → ⊥) }
+{
+    let [d, p, od, op] = names else {
+        return None;
+    };
+    let (d, p, od, op) = (d.as_str(), p.as_str(), od.as_str(), op.as_str());
+    let names = Named { d, p, od, op };
+    let numeral = slots(options);
+    if !are_apart(&names) || !are_slots(numeral) {
+        return None;
+    }
+    Some(Translation {
+        names,
+        numeral,
+        style: style(options)?,
+        checks: checks(options)?,
+    })
+}
+
+fn asked_bound(words: &[String]) -> Option<Bounding<'_>>
+    ensures asked { IfSome result (λ asked. AsksBound (words_of words.now) (bound_of asked)) }
+    ensures other { IfNone result ((request : BoundRequest) →
+        AsksBound (words_of words.now) request → ⊥) }
+{
+    let parts = parts_of(words, &BOUND)?;
+    bound(parts.names, parts.options)
+}
+
+fn bound<'a>(names: &'a [String], options: &'a [String]) -> Option<Bounding<'a>>
+    ensures said { IfSome result (λ asked.
+        SayBound (words_of names.now) (words_of options.now) (bound_of asked)) }
+    ensures other { IfNone result ((request : BoundRequest) →
+        SayBound (words_of names.now) (words_of options.now) request → ⊥) }
+{
+    let [d, p] = names else {
+        return None;
+    };
+    Some(Bounding {
+        d: d.as_str(),
+        p: p.as_str(),
+        checks: checks(options)?,
+    })
+}
+
+fn asked_validation(words: &[String]) -> Option<Validation<'_>>
+    ensures asked { IfSome result (λ asked.
+        AsksValidation (words_of words.now) (validation_of asked)) }
+    ensures other { IfNone result ((request : ValidationRequest) →
+        AsksValidation (words_of words.now) request → ⊥) }
+{
+    let parts = parts_of(words, &VALIDATION)?;
+    validation(parts.names, parts.options)
+}
+
+fn validation<'a>(names: &'a [String], options: &'a [String]) -> Option<Validation<'a>>
+    ensures said { IfSome result (λ asked.
+        SayValidation (words_of names.now) (words_of options.now) (validation_of asked)) }
+    ensures other { IfNone result ((request : ValidationRequest) →
+        SayValidation (words_of names.now) (words_of options.now) request → ⊥) }
+{
+    let [pd, pp, plan] = names else {
+        return None;
+    };
+    Some(Validation {
+        pd: pd.as_str(),
+        pp: pp.as_str(),
+        plan: plan.as_str(),
+    })
+}

@@ -1,4 +1,0 @@
-pub mod Numerals
-pub mod Choices
-pub mod Requests
-pub mod examples

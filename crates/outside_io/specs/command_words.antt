@@ -1,4 +1,0 @@
-pub mod Names
-pub mod Bounds
-pub mod Options
-pub mod Words

@@ -1,0 +1,6 @@
+/// A standard stream of the process.
+#[derive(Clone, Copy)]
+pub enum Stream {
+    Output,
+    Error,
+}
