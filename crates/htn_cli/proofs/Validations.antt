@@ -28,6 +28,8 @@ use Rattle.htn_cli.specs.declared.checked.Checked.TheVariants as checked
 use Rattle.htn_cli.specs.Checks.{IsChecked}
 use Rattle.htn_cli.specs.Validation.{Spell, IsLeastOfThree, of_plan, most_steps}
 use Rattle.htn_cli.specs.Stops.{IsConfirmedFor, StopsFor}
+use Rattle.htn_cli.specs.declared.refusal.Finding.TheVariants as finding
+use Rattle.htn_cli.specs.declared.refusal.Limit.TheVariants as limit
 use Rattle.htn_cli.specs.declared.refusal.Refusal.TheVariants as refused
 
 -- things with different words are told apart by their words
@@ -144,10 +146,10 @@ module _ (value : Pddl) (plan : List ℕ) where
   confirmed_for c domain problem is = (value, c.0, record { spelled = spell domain problem is c.0 c.1; few = c.2.0 }, c.2.1)
 
   module _ (names : List Word) where
-    pub too_many_for : (n : ℕ) → IsChecked value plan most_steps (checked.TooMany n) → StopsFor names value plan (refused.StepsLimit n)
+    pub too_many_for : (n : ℕ) → IsChecked value plan most_steps (checked.TooMany n) → StopsFor names value plan (refused.Limit (limit.Steps n))
     too_many_for n c domain problem is = (value, c.0, spell domain problem is c.0 c.1, c.2.0, c.2.1)
 
-    pub fails_for : (step : ℕ) (why : FailWhy) → IsChecked value plan most_steps (checked.Fails step why) → StopsFor names value plan (refused.NotAPlan step why)
+    pub fails_for : (step : ℕ) (why : FailWhy) → IsChecked value plan most_steps (checked.Fails step why) → StopsFor names value plan (refused.Finding (finding.NotAPlan step why))
     fails_for step why c domain problem is = (value, c.0, record { spelled = spell domain problem is c.0 c.1; few = c.2.0 }, c.2.1)
 
 -- the fault of a plan's text is the least of three texts, where the two others have none

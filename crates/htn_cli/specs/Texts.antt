@@ -20,7 +20,7 @@ pub record Texts : Type 0 where
 abbrev pub texts_of : Printed → Texts
 texts_of printed = record { domain = printed.domain; problem = printed.problem }
 
--- the greatest length of a printed text, in bytes
+-- the greatest length of a text for a file or for standard output, in bytes
 abbrev pub longest : ℕ
 longest = 268435456
 

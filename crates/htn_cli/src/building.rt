@@ -6,7 +6,7 @@ ghost use Rattle.htn_cli.specs.Stops.{StopsPrinted};
 ghost use Rattle.htn_cli.specs.Printing.{AreWhole};
 
 use crate::manner::Manner;
-use crate::refusal::Refusal;
+use crate::refusal::{Failure, Limit, Refusal};
 use plan_model::Compiled;
 use problem_texts::{Printed, Texts, texts_of};
 use std::alloc::Global;
@@ -27,7 +27,7 @@ pub(crate) fn printed<'a>(
 {
     match texts_of(alloc, compiled, manner.slots, &manner.style, LONGEST) {
         Ok(Printed::Whole(texts)) => Ok(texts),
-        Ok(Printed::TooLong(size)) => Err(Refusal::OutputLimit(size)),
-        Err(_) => Err(Refusal::NoMemory),
+        Ok(Printed::TooLong(size)) => Err(Refusal::Limit(Limit::Output(size))),
+        Err(_) => Err(Refusal::Failure(Failure::Memory)),
     }
 }
