@@ -1,6 +1,7 @@
 -- The calls that a run makes, from those of its steps.
 use Rattle.std.proofs.Common.{ℕ, zero, suc, ◌≡◌, ◌<◌, ◌≤◌, ◌⊎◌, List, [], ◌∷◌, ◌++◌, length, slice_get, Option, Some, None, option_map, refl, sym, ap, ◌∙◌, subst, inl, inr, append_assoc}
 use Rattle.std.proofs.lemmas.List.{append-nil}
+use Rattle.htn_base.specs.Limits.{longest_input, longest_output}
 use Rattle.outside_io.specs.Calls.{Passed, got, got_none, stored}
 use Rattle.outside_io.specs.Passed.{with_call}
 use Rattle.outside_io.specs.Files.{FilesState}
@@ -11,7 +12,7 @@ use Rattle.htn_cli.specs.Answer.{Text, Output, Answer, refuses, gives, told_alon
 use Rattle.htn_cli.specs.Answers.{Refuses, Gives, RefusesFault, IsAnswerFor, past_slots, too_large, faulty, declined, given}
 use Rattle.htn_cli.specs.Calling.{StopsGet, FailsGets, StopsGets, PassesInputs, StopsInputs, PassesRequest, StopsRequest}
 use Rattle.htn_cli.specs.Ending.{IsBeforePuts}
-use Rattle.htn_cli.specs.Inputs.{longest_input, AreShort, AreWhole, EndTooLarge}
+use Rattle.htn_cli.specs.Inputs.{AreShort, AreWhole, EndTooLarge}
 use Rattle.htn_cli.specs.Lines.{slots_line, bound_line, valid_line}
 use Rattle.htn_cli.specs.Made.{output_of}
 use Rattle.htn_cli.specs.Passing.{asked_bytes, gets, puts, with_calls, CallsAre, Keeps, PassesDone, CallsBefore, PassesRefused, PassesFinding}
@@ -20,7 +21,6 @@ use Rattle.htn_cli.specs.Requests.{inputs_of, slots_given, IsWithin}
 use Rattle.htn_cli.specs.Sent.{TakesWhole, Told}
 use Rattle.htn_cli.specs.Slots.{RefusesSlots}
 use Rattle.htn_cli.specs.Stops.{StopsTexts, StopsGiven, StopsDelivery}
-use Rattle.htn_cli.specs.Texts.{longest}
 use Rattle.htn_cli.specs.Translation.{translation_output}
 use Rattle.htn_cli.specs.promise.Finding.{TellsFinding}
 use Rattle.htn_cli.specs.declared.status.Status.{Status}
@@ -109,7 +109,7 @@ given_calls r old refusal stops = go r.numeral refl stops
     go (Some word) e stops = stops_slots (to_translate r) (number_of word) (ap (option_map number_of) e) old refusal stops
 
 module _ (request : Request) (texts : List (List ℕ)) (old new : Option (List Passed)) (calls : CallsAre old new (gets (inputs_of request) texts)) (within : IsWithin request) (whole : AreWhole (inputs_of request) texts) where
-  pub passes_output : (output : Output) → Gives request texts output → length output.told ≤ longest → PassesInputs request old new (gives output)
+  pub passes_output : (output : Output) → Gives request texts output → length output.told ≤ longest_output → PassesInputs request old new (gives output)
   passes_output output g fits = (texts, given output within whole g fits, calls)
 
   refused_for : (refusal : Refusal) → RefusesFault request texts refusal ⊎ Refuses request texts refusal → PassesInputs request old new (refuses refusal)

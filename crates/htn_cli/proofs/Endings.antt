@@ -1,10 +1,10 @@
 -- How runs end, by their refusals.
 use Rattle.std.proofs.Common.{ℕ, ◌≡◌, ◌<◌, ◌≤◌, ◌^◌, ◌⊎◌, ◌↔◌, ◌++◌, List, [], ◌∷◌, Option, Some, IfSome, refl, sym, ap, ◌∙◌, subst, inl, inr, arith}
+use Rattle.htn_base.specs.Limits.{most_slots}
 use Rattle.outside_io.specs.Count.{HasRisen}
 use Rattle.outside_io.specs.Files.{FilesState}
 use Rattle.outside_io.specs.Sink.{SinkState}
 use Rattle.command_words.specs.Names.{Word}
-use Rattle.command_words.specs.Bounds.{most_slots}
 use Rattle.command_words.specs.Words.{Request, to_translate, to_bound, to_validate, Asks, AreOfAForm}
 use Rattle.command_words.proofs.Requests.{one_request}
 use Rattle.htn_cli.specs.Answer.{Text, Output, Answer, refuses, gives}

@@ -14,8 +14,7 @@ use Rattle.plan_model.specs.plan_meaning.Network.{network}
 use Rattle.slot_machine.proofs.SpellingSteps.{open_pending, pending_open}
 use Rattle.slot_machine.proofs.bound_laws.EveryFront.{every_front_is_within}
 use Rattle.plan_model.proofs.plan_meaning.FailingLaws.{each_is_plan_or_fails}
-use Rattle.ground_state.specs.Runs.{cause}
-use Rattle.ground_state.specs.declared.verdict.FailWhy.{FailWhy}
+use Rattle.plan_model.specs.declared.causes.FailWhy.{FailWhy}
 use Rattle.plan_proof.specs.Headline.{Headline, HeadlineAtBound}
 use Rattle.plan_proof.proofs.texts.SamePlans.{spelled-plans}
 use Rattle.plan_proof.proofs.values.Headlines.{printed_too, headline_of, headline_at_bound_of}
@@ -152,7 +151,7 @@ module _ (pd pp plan : List ℕ) where
     fails = fails;
     no_plan = λ other. (
         let plan_too = (spelled-plans other.0 c pd pp other.1 spell.spelled.value.spelled.spelled steps).0 other.2 in
-        (each_is_plan_or_fails c (sound_apart c spell.spelled.value.sound) steps).not_both step (cause why) plan_too fails
+        (each_is_plan_or_fails c (sound_apart c spell.spelled.value.sound) steps).not_both step why plan_too fails
         );
   }
 

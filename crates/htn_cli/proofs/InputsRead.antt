@@ -1,10 +1,11 @@
 -- The texts of inputs, from what is read of them.
 use Rattle.std.proofs.Common.{ℕ, zero, suc, ◌≡◌, ◌<◌, ◌≤◌, Bool, List, [], ◌∷◌, ◌++◌, length, slice_get, take, take_all, Option, Some, None, IfSome, option_map, refl, sym, ap, ◌∙◌, subst, arith}
 use Rattle.std.proofs.lemmas.List.{length-take}
+use Rattle.htn_base.specs.Limits.{longest_input}
 use Rattle.outside_io.specs.Folder.{Folder, file_of}
 use Rattle.outside_io.specs.Files.{FilesState, GetGives, GetFails}
 use Rattle.command_words.specs.Names.{Word}
-use Rattle.htn_cli.specs.Inputs.{longest_input, AreShort, EndTooLarge, AreGot, FailsToRead}
+use Rattle.htn_cli.specs.Inputs.{AreShort, EndTooLarge, AreGot, FailsToRead}
 use Rattle.htn_cli.specs.Told.{Reads}
 use Rattle.htn_cli.specs.Stops.{GivesInput, StopsInput, GivesTexts, StopsReading}
 use Rattle.htn_cli.specs.declared.refusal.Failure.TheVariants as failure

@@ -2,6 +2,7 @@
 use Rattle.std.proofs.Common.{ℕ, ◌≡◌, ◌+◌, ◌<◌, ◌≤◌, ◌^◌, ◌⊎◌, List, [], ◌∷◌, ◌++◌, length, codes, decimal, Option, Some, None, IfSome, option_map, refl, sym, ap, ◌∙◌, subst, inl, inr, arith}
 use Rattle.std.proofs.lemmas.List.{length-append}
 use Rattle.std.proofs.lemmas.Fmt.{length-decimal-le_wide}
+use Rattle.htn_base.specs.Limits.{longest_output, most_slots}
 use Rattle.outside_io.specs.Files.{FilesState}
 use Rattle.outside_io.specs.Sink.{SinkState}
 use Rattle.hddl_reader.specs.declared.sections.Language.TheVariants as language
@@ -14,7 +15,6 @@ use Rattle.plan_model.specs.plan_meaning.Schemas.{task}
 use Rattle.plan_model.specs.plan_meaning.Bound.{IsBound}
 use Rattle.bound_calc.specs.Soundly.{IsSoundlyCompiled}
 use Rattle.command_words.specs.Names.{Word}
-use Rattle.command_words.specs.Bounds.{most_slots}
 use Rattle.command_words.specs.Words.{TranslationRequest, BoundRequest, ValidationRequest, Request, to_translate, to_bound, to_validate, number_of}
 use Rattle.htn_cli.specs.Answer.{Output, Answer, refuses, gives, told_alone}
 use Rattle.htn_cli.specs.Answers.{IsLeastOf, Refuses, Gives, RefusesFault, IsAnswerFor, past_slots, too_large, faulty, declined, given, IsAnswer}
@@ -29,7 +29,7 @@ use Rattle.htn_cli.specs.Requests.{inputs_of, slots_given, IsWithin}
 use Rattle.htn_cli.specs.Sent.{TakesWhole}
 use Rattle.htn_cli.specs.Slots.{RefusesSlots}
 use Rattle.htn_cli.specs.Stops.{GivesTexts, StopsReading, StopsFault, StopsTexts, StopsPlan, StopsBound, IsGiven, StopsGiven, IsChosen, StopsChosen, StopsPrinted, IsWant, StopsDelivery, StopsOutput}
-use Rattle.htn_cli.specs.Texts.{texts_of, longest}
+use Rattle.htn_cli.specs.Texts.{texts_of}
 use Rattle.htn_cli.specs.Translation.{AreSlotsOf, IsForSlots, GivesTranslation, translation_output}
 use Rattle.htn_cli.specs.Validation.{AreConfirmed}
 use Rattle.htn_cli.specs.declared.output.Output.{Output as Made}
@@ -53,14 +53,14 @@ soundly d p checks c s = record { problem = s.value; checks = checks; sound = s.
 few_digits : (n : ℕ) → n < 2 ^ 128 → length (decimal n) ≤ 39
 few_digits n l = length-decimal-le_wide 39 n (omega arith) (omega (arith, l)) (omega (arith, l))
 
-pub slots_line_fits : (n : ℕ) → n ≤ most_slots → length (slots_line n) ≤ longest
+pub slots_line_fits : (n : ℕ) → n ≤ most_slots → length (slots_line n) ≤ longest_output
 slots_line_fits n few =
     let d = few_digits n (omega (arith, few)) in
     let a = length-append (codes "slots " ++ decimal n) (codes "\n") in
     let b = length-append (codes "slots ") (decimal n) in
     omega (arith, d, a, b)
 
-pub bound_line_fits : (n : ℕ) → n < 2 ^ 128 → length (bound_line n) ≤ longest
+pub bound_line_fits : (n : ℕ) → n < 2 ^ 128 → length (bound_line n) ≤ longest_output
 bound_line_fits n few =
     let d = few_digits n few in
     let a = length-append (decimal n) (codes "\n") in
@@ -68,7 +68,7 @@ bound_line_fits n few =
 
 -- The answer to a request whose texts were all got.
 module _ (request : Request) (old : FilesState) (texts : List (List ℕ)) (got : AreGot old (inputs_of request) texts) (within : IsWithin request) (whole : AreWhole (inputs_of request) texts) where
-  pub answer_given : (output : Output) → Gives request texts output → length output.told ≤ longest → IsAnswer request old (gives output)
+  pub answer_given : (output : Output) → Gives request texts output → length output.told ≤ longest_output → IsAnswer request old (gives output)
   answer_given output g fits = record { texts = texts; got = got; answers = given output within whole g fits }
 
   answer_refused : (refusal : Refusal) → RefusesFault request texts refusal ⊎ Refuses request texts refusal → IsAnswer request old (refuses refusal)
@@ -85,7 +85,7 @@ module _ (request : Request) (old : FilesState) (texts : List (List ℕ)) (got :
 
 -- The same of what the program made.
 module _ (request : Request) (old new : FilesState) (texts : List (List ℕ)) (read : GivesTexts (inputs_of request) old new texts) (within : IsWithin request) (whole : AreWhole (inputs_of request) texts) where
-  pub gives_made : (made : Made) → Gives request texts (output_of made) → length made.told ≤ longest → NamesDiffer made → GivesOutput request old new made
+  pub gives_made : (made : Made) → Gives request texts (output_of made) → length made.told ≤ longest_output → NamesDiffer made → GivesOutput request old new made
   gives_made made g fits differ = record { same = read.same; answer = answer_given request old texts read.got within whole (output_of made) g fits; differ = differ }
 
   pub stops_made : (refusal : Refusal) → StopsTexts request texts refusal → StopsOutput request old new refusal
@@ -247,13 +247,13 @@ module _ (r : TranslationRequest) where
   stops_made_for d p c spelled g is refusal (inl stops) = chosen_stops d p c spelled g is refusal stops
   stops_made_for d p c spelled g is refusal (inr (slots, chosen, stops)) = print_stops d p c spelled g is slots chosen refusal stops
 
-  pub translation_fits : (d p : List ℕ) (output : Output) → GivesTranslation r d p output → length output.told ≤ longest
-  translation_fits d p output (texts, slots, written, e) = subst (λ (z : Output). length z.told ≤ longest) (sym e) (slots_line_fits slots written.source.few)
+  pub translation_fits : (d p : List ℕ) (output : Output) → GivesTranslation r d p output → length output.told ≤ longest_output
+  translation_fits d p output (texts, slots, written, e) = subst (λ (z : Output). length z.told ≤ longest_output) (sym e) (slots_line_fits slots written.source.few)
 
 -- A bound.
 module _ (r : BoundRequest) (d p : List ℕ) where
-  pub bound_fits : (output : Output) → GivesBound r d p output → length output.told ≤ longest
-  bound_fits output (n, has, small, e) = subst (λ (z : Output). length z.told ≤ longest) (sym e) (bound_line_fits n small)
+  pub bound_fits : (output : Output) → GivesBound r d p output → length output.told ≤ longest_output
+  bound_fits output (n, has, small, e) = subst (λ (z : Output). length z.told ≤ longest_output) (sym e) (bound_line_fits n small)
 
   module _ (c : Compiled) (spelled : SpellProblem d p r.checks c) where
     pub bound_not_computed : (refusal : Refusal) → StopsBound c refusal → StopsTexts (to_bound r) (d ∷ p ∷ []) refusal
@@ -275,5 +275,5 @@ module _ (r : ValidationRequest) (d p l : List ℕ) where
   plan_stops (refused.Failure failure.Memory) stops = tt
   plan_stops _ stops = absurd stops
 
-  pub plan_fits : (output : Output) → output ≡ told_alone valid_line → length output.told ≤ longest
-  plan_fits output e = subst (λ (z : Output). length z.told ≤ longest) (sym e) (omega arith)
+  pub plan_fits : (output : Output) → output ≡ told_alone valid_line → length output.told ≤ longest_output
+  plan_fits output e = subst (λ (z : Output). length z.told ≤ longest_output) (sym e) (omega arith)

@@ -1,7 +1,7 @@
 -- Words have one answer at most.
 use Rattle.std.proofs.Common.{ℕ, ◌≡◌, ◌<◌, ◌≤◌, ◌++◌, List, [], ◌∷◌, Option, Some, IfSome, codes, refl, sym, ap, ◌∙◌, subst, inl, inr, arith}
+use Rattle.htn_base.specs.Limits.{most_slots}
 use Rattle.outside_io.specs.Files.{FilesState}
-use Rattle.command_words.specs.Bounds.{most_slots}
 use Rattle.command_words.specs.Names.{Word}
 use Rattle.command_words.specs.Words.{TranslationRequest, BoundRequest, ValidationRequest, Request, to_translate, to_bound, to_validate}
 use Rattle.command_words.proofs.Requests.{one_request}

@@ -1,5 +1,6 @@
 -- What a translation gives, or is declined for, is one thing.
 use Rattle.std.proofs.Common.{ℕ, ◌≡◌, ◌<◌, ◌≤◌, ◌^◌, ◌++◌, List, length, Option, Some, None, codes, refl, sym, ap, ◌∙◌, subst, inl, inr, arith}
+use Rattle.htn_base.specs.Limits.{longest_output, most_slots}
 use Rattle.plan_model.specs.declared.values.Pddl.{Pddl}
 use Rattle.plan_model.specs.declared.values.Compiled.{Compiled}
 use Rattle.plan_texts.specs.PrintedTexts.{domain_text, problem_text}
@@ -7,14 +8,13 @@ use Rattle.plan_model.specs.plan_meaning.Bound.{IsBound}
 use Rattle.slot_encoding.specs.encoded_texts.FullyEncoded.{IsFullyEncoded}
 use Rattle.bound_calc.specs.NoBound.{NamesCycle}
 use Rattle.command_words.specs.Names.{Word}
-use Rattle.command_words.specs.Bounds.{most_slots}
 use Rattle.command_words.specs.Words.{TranslationRequest}
 use Rattle.htn_cli.specs.Answer.{Output, Answer, refuses, gives}
 use Rattle.htn_cli.specs.OneAnswer.{TellTheSame}
 use Rattle.htn_cli.specs.Problem.{SpellProblem}
 use Rattle.htn_cli.specs.Refusal.{line_of}
 use Rattle.htn_cli.specs.Slots.{RefusesSlots}
-use Rattle.htn_cli.specs.Texts.{Texts, longest, IsFirstTooLong, AreTranslated, AreTooLong}
+use Rattle.htn_cli.specs.Texts.{Texts, IsFirstTooLong, AreTranslated, AreTooLong}
 use Rattle.htn_cli.specs.Translation.{AreSlotsOf, manner_with, IsForSlots, RefusesTranslation, GivesTranslation, translation_output}
 use Rattle.htn_cli.specs.declared.refusal.Finding.TheVariants as finding
 use Rattle.htn_cli.specs.declared.refusal.Limit.TheVariants as limit
@@ -47,7 +47,7 @@ one_long domain problem n m (inl (l, e)) (inr (few, k, f)) = absurd (omega (arit
 one_long domain problem n m (inr (few, l, e)) (inl (k, f)) = absurd (omega (arith, k, few))
 one_long domain problem n m (inr (few, l, e)) (inr (less, k, f)) = e ∙ sym f
 
-not_long : (domain problem : List ℕ) (n : ℕ) → IsFirstTooLong domain problem n → length domain ≤ longest → length problem ≤ longest → ⊥
+not_long : (domain problem : List ℕ) (n : ℕ) → IsFirstTooLong domain problem n → length domain ≤ longest_output → length problem ≤ longest_output → ⊥
 not_long domain problem n (inl (l, e)) d p = omega (arith, l, d)
 not_long domain problem n (inr (few, l, e)) d p = omega (arith, l, p)
 

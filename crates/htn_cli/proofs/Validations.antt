@@ -1,5 +1,6 @@
 -- What a sound PDDL value gives to the run of a plan, and which file a fault of three texts is in.
 use Rattle.std.proofs.Common.{ℕ, zero, suc, ◌≡◌, ◌<◌, List, [], ◌∷◌, map, length, slice_get, Some, All, Contains, refl, sym, ap, ◌∙◌, subst, arith}
+use Rattle.htn_base.specs.Limits.{most_steps}
 use Rattle.htn_base.specs.Different.{AreDifferent}
 use Rattle.text_forms.specs.Words.{Word, word_at}
 use Rattle.plan_texts.specs.Declared.{named}
@@ -17,7 +18,7 @@ use Rattle.plan_model.specs.declared.types.Parent.{Parent}
 use Rattle.plan_model.specs.declared.values.Pddl.{Pddl}
 use Rattle.plan_model.specs.plan_meaning.FailingStep.{AreNamedApart}
 use Rattle.ground_state.specs.Runs.{IsRunnable}
-use Rattle.ground_state.specs.declared.verdict.FailWhy.{FailWhy}
+use Rattle.plan_model.specs.declared.causes.FailWhy.{FailWhy}
 use Rattle.text_values.specs.form_spellings.SoundPddl.{IsSoundClassical}
 use Rattle.text_forms.specs.Faults.{fault}
 use Rattle.hddl_reader.specs.declared.sections.Language.TheVariants as language
@@ -26,7 +27,7 @@ use Rattle.text_values.specs.PddlValues.{IsValueOf}
 use Rattle.plan_text.specs.Plans.{IsPlanFault, IsPlanRead}
 use Rattle.htn_cli.specs.declared.checked.Checked.TheVariants as checked
 use Rattle.htn_cli.specs.Checks.{IsChecked}
-use Rattle.htn_cli.specs.Validation.{Spell, IsLeastOfThree, of_plan, most_steps}
+use Rattle.htn_cli.specs.Validation.{Spell, IsLeastOfThree, of_plan}
 use Rattle.htn_cli.specs.Stops.{IsConfirmedFor, StopsFor}
 use Rattle.htn_cli.specs.declared.refusal.Finding.TheVariants as finding
 use Rattle.htn_cli.specs.declared.refusal.Limit.TheVariants as limit

@@ -2,6 +2,7 @@
 -- its output. Where the files don't tell what they hold, any bytes may be what they hold.
 -- Source: this project's.
 use Rattle.std.specs.Prelude.{ℕ, ◌≡◌, ◌≤◌, ◌⊎◌, List, [], ◌∷◌, Some, length}
+use Rattle.htn_base.specs.Limits.{longest_output}
 use Rattle.hddl_reader.specs.declared.sections.Language.TheVariants as language
 use Rattle.outside_io.specs.Files.{FilesState}
 use Rattle.text_values.specs.TextFaults.{IsLeastFault}
@@ -13,7 +14,6 @@ use Rattle.htn_cli.specs.Faults.{IsNoLimit, limit_code, IsFaultAt}
 use Rattle.htn_cli.specs.Inputs.{AreGot, AreWhole, EndTooLarge}
 use Rattle.htn_cli.specs.Requests.{inputs_of, slots_given, IsWithin}
 use Rattle.htn_cli.specs.Slots.{RefusesSlots}
-use Rattle.htn_cli.specs.Texts.{longest}
 use Rattle.htn_cli.specs.Translation.{RefusesTranslation, GivesTranslation}
 use Rattle.htn_cli.specs.Validation.{IsLeastOfThree, RefusesPlan, GivesPlan}
 use Rattle.htn_cli.specs.declared.refusal.Limit.TheVariants as limit
@@ -63,7 +63,7 @@ module _ (request : Request) (texts : List (List ℕ)) where
     too_large : (refusal : Refusal) → IsWithin request → RefusesSize refusal → IsAnswerFor (refuses refusal)
     faulty : (refusal : Refusal) → IsWithin request → AreWhole (inputs_of request) texts → RefusesFault refusal → IsAnswerFor (refuses refusal)
     declined : (refusal : Refusal) → IsWithin request → AreWhole (inputs_of request) texts → Refuses request texts refusal → IsAnswerFor (refuses refusal)
-    given : (output : Output) → IsWithin request → AreWhole (inputs_of request) texts → Gives request texts output → length output.told ≤ longest
+    given : (output : Output) → IsWithin request → AreWhole (inputs_of request) texts → Gives request texts output → length output.told ≤ longest_output
         → IsAnswerFor (gives output)
 
 -- the answer to a request over what the files hold

@@ -1,5 +1,6 @@
 -- The calls of one step of a run, and those of one that is refused.
 use Rattle.std.specs.Prelude.{◌≡◌, ◌<◌, ℕ, List, [], ◌∷◌, ◌++◌, Option, Some, length, slice_get}
+use Rattle.htn_base.specs.Limits.{longest_input}
 use Rattle.outside_io.specs.Calls.{Passed, got, got_none}
 use Rattle.outside_io.specs.Passed.{with_call}
 use Rattle.outside_io.specs.Sink.{SinkState}
@@ -7,7 +8,7 @@ use Rattle.command_words.specs.Names.{Word}
 use Rattle.command_words.specs.Words.{Request}
 use Rattle.htn_cli.specs.Answer.{Output, Answer, refuses, gives}
 use Rattle.htn_cli.specs.Answers.{IsAnswerFor}
-use Rattle.htn_cli.specs.Inputs.{AreShort, EndTooLarge, longest_input}
+use Rattle.htn_cli.specs.Inputs.{AreShort, EndTooLarge}
 use Rattle.htn_cli.specs.Passing.{asked_bytes, gets, puts, CallsAre}
 use Rattle.htn_cli.specs.Requests.{inputs_of}
 use Rattle.htn_cli.specs.Sent.{TakesWhole}

@@ -1,13 +1,10 @@
 -- The texts of inputs, as they are got one after another, each with all its bytes: a list that may be shorter than that of their names.
 -- Source: this project's.
 use Rattle.std.specs.Prelude.{ℕ, ◌≡◌, ◌<◌, ◌≤◌, List, [], ◌∷◌, Some, length, slice_get}
+use Rattle.htn_base.specs.Limits.{longest_input}
 use Rattle.outside_io.specs.Files.{FilesState, GetFails}
 use Rattle.command_words.specs.Names.{Word}
 use Rattle.htn_cli.specs.Told.{Reads}
-
--- the greatest length of an input text, in bytes
-abbrev pub longest_input : ℕ
-longest_input = 16777216
 
 -- none of these texts is too large
 abbrev pub AreShort : List (List ℕ) → Type 0

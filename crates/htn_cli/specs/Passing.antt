@@ -1,7 +1,8 @@
 -- What passed between a run and its files: the gets and the puts that it made, in their order and with their bytes, and what is true of these
 -- bytes.
 -- Source: this project's.
-use Rattle.std.specs.Prelude.{ℕ, ◌≡◌, ◌<◌, List, [], ◌∷◌, ◌++◌, Option, Some, length, map, option_map, slice_get}
+use Rattle.std.specs.Prelude.{ℕ, ◌+◌, ◌≡◌, ◌<◌, List, [], ◌∷◌, ◌++◌, Option, Some, length, map, option_map, slice_get}
+use Rattle.htn_base.specs.Limits.{longest_input}
 use Rattle.outside_io.specs.Calls.{Passed, got, got_none, stored}
 use Rattle.outside_io.specs.Sink.{SinkState}
 use Rattle.command_words.specs.Names.{Word}
@@ -23,7 +24,7 @@ use Rattle.htn_cli.specs.declared.refusal.Refusal.TheVariants as refused
 
 -- a get asks for one byte more than a text may have, so that a text of fewer bytes is whole
 abbrev pub asked_bytes : ℕ
-asked_bytes = 16777217
+asked_bytes = longest_input + 1
 
 -- gets of the first of these names, one after another, which were answered these bytes
 abbrev pub gets : List Word → List (List ℕ) → List Passed

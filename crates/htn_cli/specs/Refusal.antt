@@ -3,8 +3,8 @@
 use Rattle.std.specs.Prelude.{ℕ, List, [], ◌++◌, codes, decimal}
 use Rattle.htn_cli.specs.declared.status.Status.{Status}
 use Rattle.htn_cli.specs.declared.status.Status.TheVariants as status
-use Rattle.ground_state.specs.declared.verdict.FailWhy.{FailWhy}
-use Rattle.ground_state.specs.declared.verdict.FailWhy.TheVariants as why
+use Rattle.plan_model.specs.declared.causes.FailWhy.{FailWhy}
+use Rattle.plan_model.specs.declared.causes.FailWhy.TheVariants as why
 use Rattle.htn_cli.specs.Faults.{place_text, fault_text}
 use Rattle.htn_cli.specs.declared.faults.Counted.{Counted}
 use Rattle.htn_cli.specs.declared.faults.Counted.TheVariants.{Depth, Subtasks, Types}

@@ -1,8 +1,8 @@
 -- What each command reads and writes, and the number of slots that it is given: a line a command.
 -- Source: this project's.
 use Rattle.std.specs.Prelude.{ℕ, ◌≤◌, List, [], ◌∷◌, Option, None, IfSome, option_map}
+use Rattle.htn_base.specs.Limits.{most_slots}
 use Rattle.command_words.specs.Names.{Word}
-use Rattle.command_words.specs.Bounds.{most_slots}
 use Rattle.command_words.specs.Words.{Request, to_translate, to_bound, to_validate, number_of}
 
 -- its inputs, in the order in which they are read

@@ -1,6 +1,6 @@
 -- Numbers of slots that are past a limit.
 use Rattle.std.specs.Prelude.{ℕ, ◌≡◌, ◌<◌, ◌≤◌, ◌^◌}
-use Rattle.command_words.specs.Bounds.{most_slots}
+use Rattle.htn_base.specs.Limits.{most_slots}
 use Rattle.htn_cli.specs.declared.refusal.Limit.TheVariants as limit
 use Rattle.htn_cli.specs.declared.refusal.Refusal.{Refusal}
 use Rattle.htn_cli.specs.declared.refusal.Refusal.TheVariants.{Limit}

@@ -1,5 +1,6 @@
 -- How one step of a run is refused: what it leaves, and with which refusal it ends the run.
 use Rattle.std.specs.Prelude.{◌≡◌, ◌<◌, ◌≤◌, ◌^◌, ◌⊎◌, ℕ, List, [], ◌∷◌, Option, Some, None, IfSome, length}
+use Rattle.htn_base.specs.Limits.{longest_input, most_slots}
 use Rattle.outside_io.specs.Files.{FilesState, GetFails, PutFails}
 use Rattle.outside_io.specs.Sink.{SinkState}
 use Rattle.plan_model.specs.declared.options.Checks.{Checks}
@@ -11,14 +12,14 @@ use Rattle.hddl_reader.specs.declared.sections.Language.TheVariants as language
 use Rattle.text_values.specs.TextFaults.{IsLeastFault}
 use Rattle.bound_calc.specs.NoBound.{NamesCycle}
 use Rattle.command_words.specs.Names.{Word, AreApart}
-use Rattle.command_words.specs.Bounds.{most_slots, IsNumeral}
+use Rattle.command_words.specs.Bounds.{IsNumeral}
 use Rattle.command_words.specs.Words.{Request, translation_of, number_of}
 use Rattle.command_words.specs.declared.asking.Asked.{Asked}
 use Rattle.command_words.specs.declared.asking.Asked.TheVariants as asked
 use Rattle.htn_cli.specs.Answer.{Text, Output, refuses}
 use Rattle.htn_cli.specs.Answers.{IsAnswer, RefusesFault, Refuses}
 use Rattle.htn_cli.specs.Faults.{IsFaultAt, IsNoLimit, limit_code}
-use Rattle.htn_cli.specs.Inputs.{AreGot, AreShort, EndTooLarge, FailsToRead, longest_input}
+use Rattle.htn_cli.specs.Inputs.{AreGot, AreShort, EndTooLarge, FailsToRead}
 use Rattle.htn_cli.specs.Problem.{SpellProblem}
 use Rattle.htn_cli.specs.Requests.{inputs_of, IsWithin}
 use Rattle.htn_cli.specs.Slots.{RefusesSlots}

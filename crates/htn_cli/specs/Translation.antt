@@ -1,10 +1,10 @@
 -- A translation, from the texts of a domain and of a problem: when it is refused, and what it gives.
 -- Source: this project's.
 use Rattle.std.specs.Prelude.{ℕ, ◌≡◌, ◌≤◌, List, [], ◌∷◌, Option, Some, None}
+use Rattle.htn_base.specs.Limits.{most_slots}
 use Rattle.plan_model.specs.declared.values.Compiled.{Compiled}
 use Rattle.plan_model.specs.plan_meaning.Bound.{IsBound}
 use Rattle.command_words.specs.Names.{Word, Names}
-use Rattle.command_words.specs.Bounds.{most_slots}
 use Rattle.command_words.specs.Words.{TranslationRequest, number_of}
 use Rattle.htn_cli.specs.Answer.{Output}
 use Rattle.htn_cli.specs.Lines.{slots_line}

@@ -1,13 +1,13 @@
 -- Whether a text holds a plan of two PDDL texts: the least fault of three texts, when they are refused, and what is given.
 -- Source: this project's; a plan as in Fox and Long, "PDDL2.1", JAIR 20, 2003, level 1, without times.
 use Rattle.std.specs.Prelude.{ℕ, ◌≡◌, ◌<◌, ◌≤◌, List, length}
+use Rattle.htn_base.specs.Limits.{most_steps}
 use Rattle.text_forms.specs.Faults.{fault}
 use Rattle.hddl_reader.specs.declared.sections.Language.TheVariants as language
 use Rattle.plan_model.specs.declared.steps.GroundAction.{GroundAction}
 use Rattle.plan_model.specs.declared.values.Pddl.{Pddl}
 use Rattle.plan_model.specs.plan_meaning.ClassicalPlan.{IsPlan}
 use Rattle.plan_model.specs.plan_meaning.FailingStep.{Fails}
-use Rattle.ground_state.specs.Runs.{cause}
 use Rattle.text_values.specs.TextFaults.{HaveNoFault, IsLeastFault}
 use Rattle.text_values.specs.PddlValues.{IsValueOf}
 use Rattle.plan_text.specs.Plans.{IsPlanFault, IsPlanRead}
@@ -17,10 +17,6 @@ use Rattle.htn_cli.specs.declared.refusal.Finding.TheVariants as finding
 use Rattle.htn_cli.specs.declared.refusal.Limit.TheVariants as limit
 use Rattle.htn_cli.specs.declared.refusal.Refusal.{Refusal}
 use Rattle.htn_cli.specs.declared.refusal.Refusal.TheVariants as refused
-
--- the greatest number of steps
-abbrev pub most_steps : ℕ
-most_steps = 1000000
 
 -- of the texts of a domain, a problem and a plan
 module _ (domain problem plan : List ℕ) where
@@ -42,7 +38,7 @@ module _ (domain problem plan : List ℕ) where
   -- the refusals of texts without a fault
   abbrev pub RefusesPlan : Refusal → Type 0
   RefusesPlan (refused.Limit (limit.Steps n)) = (c : Pddl) × (steps : List GroundAction) × Spell c steps × (n ≡ length steps) × (most_steps < n)
-  RefusesPlan (refused.Finding (finding.NotAPlan step why)) = (c : Pddl) × (steps : List GroundAction) × SpellFew c steps × Fails c steps step (cause why)
+  RefusesPlan (refused.Finding (finding.NotAPlan step why)) = (c : Pddl) × (steps : List GroundAction) × SpellFew c steps × Fails c steps step why
   RefusesPlan _ = ⊥
 
   -- the steps are a plan of the problem

@@ -1,9 +1,9 @@
 ghost use Rattle.std.specs.Prelude.{◌≤◌, ◌<◌, ◌^◌, ◌≡◌, [], ◌∷◌, length, IfOk, IfErr};
+ghost use Rattle.htn_base.specs.Limits.{longest_input};
 ghost use Rattle.outside_io.specs.Seen.{Seen};
 ghost use Rattle.command_words.specs.Words as words;
 ghost use Rattle.htn_cli.specs.Answer.{gives, told_alone};
 ghost use Rattle.htn_cli.specs.Bounding.{GivesBound};
-ghost use Rattle.htn_cli.specs.Inputs.{longest_input};
 ghost use Rattle.htn_cli.specs.Lines.{bound_line};
 ghost use Rattle.htn_cli.specs.Made.{GivesOutput, NamesDiffer, output_of};
 ghost use Rattle.htn_cli.specs.Calling.{PassesInputs, StopsInputs};

@@ -1,9 +1,9 @@
 ghost use Rattle.std.specs.Prelude.{ℕ, ◌≡◌, ◌≢◌, ◌↔◌, ◌⊎◌, ◌<◌, ◌≤◌, ◌^◌, IfOk, IfErr, OnOk};
+ghost use Rattle.htn_base.specs.Limits.{most_slots};
 ghost use Rattle.outside_io.specs.Seen.{Seen};
 ghost use Rattle.outside_io.specs.Files.{GetHasFailed, PutHasFailed};
 ghost use Rattle.outside_io.specs.Sink.{WriteHasFailed};
 ghost use Rattle.command_words.specs.Names.{words_of};
-ghost use Rattle.command_words.specs.Bounds.{most_slots};
 ghost use Rattle.command_words.specs.Words.{AreOfAForm, request_of};
 ghost use Rattle.htn_cli.specs.Ending.{Achieves, AskForNoFile, AskForSlots, Ends, IsAnswered, IsBeforePuts, IsDone, IsOfAnAnswer, IsRefused, IsRefusedFor, IsUntouched};
 ghost use Rattle.htn_cli.specs.Left.{Leaves};

@@ -7,14 +7,12 @@ ghost use Rattle.htn_cli.specs.Passing.{CallsAre, asked_bytes, gets};
 ghost use Rattle.htn_cli.specs.Stops.{GivesInput, GivesTexts, StopsInput, StopsReading};
 
 use crate::refusal::{Failure, Limit, Refusal};
+use htn_base::limits::LONGEST_INPUT;
 use outside_io::{Files, GetError};
 use std::alloc::Global;
 
-/// The greatest length of an input text, in bytes.
-const LONGEST_INPUT: usize = 16_777_216;
-
 /// A get asks for one byte more than a text may have.
-const ASKED_BYTES: u64 = 16_777_217;
+const ASKED_BYTES: u64 = LONGEST_INPUT as u64 + 1;
 
 /// The texts of a domain and of a problem.
 pub(crate) struct Sources {

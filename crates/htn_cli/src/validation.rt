@@ -1,9 +1,9 @@
 ghost use Rattle.std.specs.Prelude.{◌≡◌, ◌<◌, ◌≤◌, [], ◌∷◌, length, slice_get, Some, OnOk, IfOk, IfErr};
+ghost use Rattle.htn_base.specs.Limits.{longest_input};
 ghost use Rattle.outside_io.specs.Seen.{Seen};
 ghost use Rattle.command_words.specs.Words as words;
 ghost use Rattle.text_values.specs.form_spellings.SoundPddl.{IsSoundClassical};
 ghost use Rattle.htn_cli.specs.Answer.{gives, told_alone};
-ghost use Rattle.htn_cli.specs.Inputs.{longest_input};
 ghost use Rattle.htn_cli.specs.Lines.{valid_line};
 ghost use Rattle.htn_cli.specs.Made.{GivesOutput, NamesDiffer, output_of};
 ghost use Rattle.htn_cli.specs.Calling.{PassesInputs, StopsInputs};
@@ -18,14 +18,12 @@ use crate::reading::{read, read_two};
 use crate::refusal::{Failure, Finding, Limit, Refusal};
 use command_words::Validation;
 use htn_base::Fault;
+use htn_base::limits::MOST_STEPS;
 use outside_io::Files;
 use plan_model::Pddl;
 use std::alloc::Global;
 use text_forms::sexpr_text::ReadError;
 use text_values::pddl_of;
-
-/// The greatest number of steps of a plan.
-const MOST_STEPS: u32 = 1_000_000;
 
 /// The number of the plan's file among the three that are read.
 const PLAN_FILE: u8 = 2;

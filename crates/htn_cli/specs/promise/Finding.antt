@@ -10,8 +10,7 @@ use Rattle.plan_model.specs.plan_meaning.FailingStep.{Fails}
 use Rattle.plan_model.specs.plan_meaning.Strata.{Edge}
 use Rattle.plan_texts.specs.PlanText.{SpellsPlan}
 use Rattle.plan_texts.specs.SpellsPddl.{SpellsPddl}
-use Rattle.ground_state.specs.Runs.{cause}
-use Rattle.ground_state.specs.declared.verdict.FailWhy.{FailWhy}
+use Rattle.plan_model.specs.declared.causes.FailWhy.{FailWhy}
 use Rattle.plan_proof.specs.TextPlans.{IsPlanOf}
 use Rattle.bound_calc.specs.stratifier.NamedCycle.{IsNamed}
 use Rattle.bound_calc.specs.stratifier.CycleWords.{cycle_line}
@@ -39,7 +38,7 @@ pub record TellsFailure (pd pp plan : List ℕ) (err err' : SinkState) : Type 0 
   pub told : Told (line_of (refused.Finding (finding.NotAPlan step why))) err err'
   pub spelled : SpellsPlan plan steps
   pub value_is : SpellsPddl pd pp value
-  pub fails : Fails value steps step (cause why)
+  pub fails : Fails value steps step why
   pub no_plan : IsPlanOf pd pp steps → ⊥
 
 -- what was found, and told, of a request whose inputs have these texts

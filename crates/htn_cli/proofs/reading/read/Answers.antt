@@ -1,5 +1,5 @@
 use Rattle.std.proofs.Common.{◌<◌, ◌≤◌, length, refl, arith}
-use Rattle.htn_cli.specs.Inputs.{longest_input}
+use Rattle.htn_base.specs.Limits.{longest_input}
 use Rattle.htn_cli.proofs.InputsRead.{input_of, large_of}
 use Rattle.htn_cli.proofs.reading.read.Goals as goal
 

@@ -1,8 +1,9 @@
 use Rattle.std.proofs.Common.{[], ◌∷◌, subst}
+use Rattle.htn_base.specs.Limits.{most_steps}
 use Rattle.text_forms.specs.declared.sexpr_text.read_error.ReadError.TheVariants.{Bad}
 use Rattle.plan_text.specs.Plans.{RefusesPlan}
 use Rattle.htn_cli.specs.Checks.{IsChecked}
-use Rattle.htn_cli.specs.Validation.{IsLeastOfThree, most_steps}
+use Rattle.htn_cli.specs.Validation.{IsLeastOfThree}
 use Rattle.htn_cli.proofs.Faulty.{bad_stops, fault_stops_plan, one_of_three_files}
 use Rattle.htn_cli.proofs.Validations.{sound_runnable, confirmed_for, too_many_for, fails_for, least_of_plan}
 use Rattle.htn_cli.proofs.validation.confirm_plan.Goals as goal
