@@ -48,7 +48,8 @@ module _ (request : Request) (texts : List (List ℕ)) where
   -- the refusal of texts with a least fault
   abbrev pub RefusesFault : Refusal → Type 0
   RefusesFault (refused.Fault place code) = IsFaultAt (inputs_of request) (IsLeastOf request texts) place code × IsNoLimit code
-  RefusesFault (refused.Limit (limit.Text counted place)) = IsFaultAt (inputs_of request) (IsLeastOf request texts) place (limit_code counted)
+  RefusesFault (refused.Limit (limit.Text counted place)) =
+      IsFaultAt (inputs_of request) (IsLeastOf request texts) place (limit_code counted)
   RefusesFault _ = ⊥
 
   -- the refusal of texts, the last of which is too large
@@ -56,14 +57,19 @@ module _ (request : Request) (texts : List (List ℕ)) where
   RefusesSize (refused.Limit (limit.Bytes name)) = EndTooLarge (inputs_of request) texts name.now
   RefusesSize _ = ⊥
 
+  -- these are the texts of all inputs
+  abbrev pub AreAll : Type 0
+  AreAll = AreWhole (inputs_of request) texts
+
   -- the answer, where these texts were got of the inputs, one after another. A number of slots that is given and past a limit is refused
   -- before the first, and no more are got than the first that is too large. What is told has a limit of bytes, as the text of a file has.
   pub data IsAnswerFor : Answer → Type 0 where
-    past_slots : (n : ℕ) (refusal : Refusal) → texts ≡ [] → slots_given request ≡ Some n → RefusesSlots n refusal → IsAnswerFor (refuses refusal)
+    past_slots : (n : ℕ) (refusal : Refusal) → texts ≡ [] → slots_given request ≡ Some n → RefusesSlots n refusal
+        → IsAnswerFor (refuses refusal)
     too_large : (refusal : Refusal) → IsWithin request → RefusesSize refusal → IsAnswerFor (refuses refusal)
-    faulty : (refusal : Refusal) → IsWithin request → AreWhole (inputs_of request) texts → RefusesFault refusal → IsAnswerFor (refuses refusal)
-    declined : (refusal : Refusal) → IsWithin request → AreWhole (inputs_of request) texts → Refuses request texts refusal → IsAnswerFor (refuses refusal)
-    given : (output : Output) → IsWithin request → AreWhole (inputs_of request) texts → Gives request texts output → length output.told ≤ longest_output
+    faulty : (refusal : Refusal) → IsWithin request → AreAll → RefusesFault refusal → IsAnswerFor (refuses refusal)
+    declined : (refusal : Refusal) → IsWithin request → AreAll → Refuses request texts refusal → IsAnswerFor (refuses refusal)
+    given : (output : Output) → IsWithin request → AreAll → Gives request texts output → length output.told ≤ longest_output
         → IsAnswerFor (gives output)
 
 -- the answer to a request over what the files hold

@@ -19,24 +19,29 @@ use Rattle.htn_cli.specs.declared.refusal.Refusal.TheVariants as refused
 
 -- a get that was answered too many bytes, or failed
 abbrev pub StopsGet : Word → Option (List Passed) → Option (List Passed) → Refusal → Type 0
-StopsGet name old new (refused.Limit (limit.Bytes word)) = (bytes : List ℕ) × (word.now ≡ name) × (longest_input < length bytes) × (new ≡ with_call old (got name asked_bytes bytes))
+StopsGet name old new (refused.Limit (limit.Bytes word)) =
+    (bytes : List ℕ) × (word.now ≡ name) × (longest_input < length bytes) × (new ≡ with_call old (got name asked_bytes bytes))
 StopsGet name old new (refused.Failure (failure.Reading word)) = (word.now ≡ name) × (new ≡ with_call old (got_none name))
 StopsGet name old new (refused.Failure failure.Memory) = Unit {0}
 StopsGet name old new _ = ⊥
 
 -- a get of one of these names failed, behind those that were answered
 abbrev pub FailsGets : List Word → Option (List Passed) → Option (List Passed) → Word → Type 0
-FailsGets names old new word = (texts : List (List ℕ)) × AreShort texts × (slice_get names (length texts) ≡ Some word) × CallsAre old new (gets names texts ++ got_none word ∷ [])
+FailsGets names old new word =
+    (texts : List (List ℕ)) × AreShort texts × (slice_get names (length texts) ≡ Some word)
+    × CallsAre old new (gets names texts ++ got_none word ∷ [])
 
 abbrev pub StopsGets : List Word → Option (List Passed) → Option (List Passed) → Refusal → Type 0
-StopsGets names old new (refused.Limit (limit.Bytes word)) = (texts : List (List ℕ)) × EndTooLarge names texts word.now × CallsAre old new (gets names texts)
+StopsGets names old new (refused.Limit (limit.Bytes word)) =
+    (texts : List (List ℕ)) × EndTooLarge names texts word.now × CallsAre old new (gets names texts)
 StopsGets names old new (refused.Failure (failure.Reading word)) = FailsGets names old new word.now
 StopsGets names old new (refused.Failure failure.Memory) = Unit {0}
 StopsGets names old new _ = ⊥
 
 -- the inputs that were got have this answer
 abbrev pub PassesInputs : Request → Option (List Passed) → Option (List Passed) → Answer → Type 0
-PassesInputs request old new answer = (texts : List (List ℕ)) × IsAnswerFor request texts answer × CallsAre old new (gets (inputs_of request) texts)
+PassesInputs request old new answer =
+    (texts : List (List ℕ)) × IsAnswerFor request texts answer × CallsAre old new (gets (inputs_of request) texts)
 
 abbrev pub StopsInputs : Request → Option (List Passed) → Option (List Passed) → Refusal → Type 0
 StopsInputs request old new (refused.Failure (failure.Reading word)) = FailsGets (inputs_of request) old new word.now

@@ -89,7 +89,8 @@ module _ (request : Request) (old new : FilesState) (out out' : SinkState) where
   -- where something failed: what stands of the output
   abbrev pub LeavesFailed : Failure → Type 0
   LeavesFailed (failure.Reading name) = IsWithin request × FailsToRead old (inputs_of request) new name.now × (out' ≡ out)
-  LeavesFailed (failure.Writing name) = (output : Output) × IsAnswer request old (gives output) × FailsToPut output.texts name.now old new × (out' ≡ out)
+  LeavesFailed (failure.Writing name) =
+      (output : Output) × IsAnswer request old (gives output) × FailsToPut output.texts name.now old new × (out' ≡ out)
   LeavesFailed failure.Telling = (output : Output) × IsAnswer request old (gives output) × StandsUpTo TakesThenFails output old new out out'
   LeavesFailed failure.Memory = IsWithin request × LeavesStarved
 

@@ -15,7 +15,9 @@ use Rattle.htn_cli.specs.declared.output.Written.{Written}
 use Rattle.htn_cli.specs.declared.refusal.Refusal.{Refusal}
 
 abbrev pub texts_in : Written → List Text
-texts_in written = record { name = written.od.now; bytes = written.texts.domain } ∷ record { name = written.op.now; bytes = written.texts.problem } ∷ []
+texts_in written =
+    record { name = written.od.now; bytes = written.texts.domain }
+    ∷ record { name = written.op.now; bytes = written.texts.problem } ∷ []
 
 abbrev pub texts_by : Option Written → List Text
 texts_by (Some written) = texts_in written
@@ -49,7 +51,9 @@ module _ (request : TranslationRequest) where
     IsMadeFor made = (slots : ℕ) × IsChosen compiled number slots × IsMadeWith compiled slots made
 
     abbrev pub StopsMadeFor : Refusal → Type 0
-    StopsMadeFor refusal = StopsChosen compiled number refusal ⊎ ((slots : ℕ) × IsChosen compiled number slots × StopsPrinted compiled (manner_of slots) refusal)
+    StopsMadeFor refusal =
+        StopsChosen compiled number refusal
+        ⊎ ((slots : ℕ) × IsChosen compiled number slots × StopsPrinted compiled (manner_of slots) refusal)
 
 -- what was made is the answer to a request, and nothing was written yet
 pub record GivesOutput (request : Request) (old new : FilesState) (made : Made) : Type 0 where

@@ -1,5 +1,5 @@
--- What passed between a run and its files: the gets and the puts that it made, in their order and with their bytes, and what is true of these
--- bytes.
+-- What passed between a run and its files: the gets and the puts that it made, in their order and with their bytes, and what is true of
+-- these bytes.
 -- Source: this project's.
 use Rattle.std.specs.Prelude.{ℕ, ◌+◌, ◌≡◌, ◌<◌, List, [], ◌∷◌, ◌++◌, Option, Some, length, map, option_map, slice_get}
 use Rattle.htn_base.specs.Limits.{longest_input}
@@ -51,8 +51,8 @@ Keeps (to_validate r) (pd ∷ pp ∷ plan ∷ []) [] out out' = TellsPlan pd pp 
 Keeps _ _ _ out out' = ⊥
 
 module _ (words : List Word) (Called : List Passed → Type 0) where
-  -- what the words ask for was done: each input was got once, in their order, and then each output was put once, in theirs; the output is the
-  -- answer for the texts that were got, and what is promised is true of these bytes
+  -- what the words ask for was done: each input was got once, in their order, and then each output was put once, in theirs; the output is
+  -- the answer for the texts that were got, and what is promised is true of these bytes
   pub record PassesDone (out out' : SinkState) : Type 0 where
     pub request : Request
     pub asked : Asks words request
@@ -67,11 +67,12 @@ module _ (words : List Word) (Called : List Passed → Type 0) where
   abbrev pub CallsBefore : Refusal → Type 0
   CallsBefore refused.Words = (AreOfAForm words → ⊥) × Called []
   CallsBefore (refused.Failure (failure.Reading name)) =
-      (request : Request) × Asks words request × (texts : List (List ℕ)) × AreShort texts × (slice_get (inputs_of request) (length texts) ≡ Some name.now)
-      × Called (gets (inputs_of request) texts ++ got_none name.now ∷ [])
+      (request : Request) × Asks words request × (texts : List (List ℕ)) × AreShort texts
+      × (slice_get (inputs_of request) (length texts) ≡ Some name.now) × Called (gets (inputs_of request) texts ++ got_none name.now ∷ [])
   CallsBefore (refused.Failure _) = Unit {0}
   CallsBefore refusal =
-      (request : Request) × Asks words request × (texts : List (List ℕ)) × IsAnswerFor request texts (refuses refusal) × Called (gets (inputs_of request) texts)
+      (request : Request) × Asks words request × (texts : List (List ℕ)) × IsAnswerFor request texts (refuses refusal)
+      × Called (gets (inputs_of request) texts)
 
   -- and a finding is true of them
   pub record PassesRefused (ended : Status) (err err' : SinkState) : Type 0 where

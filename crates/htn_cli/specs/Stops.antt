@@ -46,7 +46,8 @@ pub record GivesInput (name : Word) (old new : FilesState) (bytes : List ℕ) : 
 abbrev pub StopsInput : Word → FilesState → FilesState → Refusal → Type 0
 StopsInput name old new (refused.Failure (failure.Reading word)) = (word.now ≡ name) × GetFails old new name
 StopsInput name old new (refused.Failure failure.Memory) = new ≡ old
-StopsInput name old new (refused.Limit (limit.Bytes word)) = (word.now ≡ name) × ((bytes : List ℕ) × Reads old name bytes × (longest_input < length bytes)) × (new ≡ old)
+StopsInput name old new (refused.Limit (limit.Bytes word)) =
+    (word.now ≡ name) × ((bytes : List ℕ) × Reads old name bytes × (longest_input < length bytes)) × (new ≡ old)
 StopsInput name old new _ = ⊥
 
 -- the first inputs of these names, as they were read one after another
@@ -59,7 +60,8 @@ pub record GivesTexts (names : List Word) (old new : FilesState) (texts : List (
 abbrev pub StopsReading : List Word → FilesState → FilesState → Refusal → Type 0
 StopsReading names old new (refused.Failure (failure.Reading word)) = FailsToRead old names new word.now
 StopsReading names old new (refused.Failure failure.Memory) = new ≡ old
-StopsReading names old new (refused.Limit (limit.Bytes word)) = ((texts : List (List ℕ)) × AreGot old names texts × EndTooLarge names texts word.now) × (new ≡ old)
+StopsReading names old new (refused.Limit (limit.Bytes word)) =
+    ((texts : List (List ℕ)) × AreGot old names texts × EndTooLarge names texts word.now) × (new ≡ old)
 StopsReading names old new _ = ⊥
 
 -- the texts with a fault, of files with these names
@@ -87,7 +89,8 @@ StopsPlan names domain problem plan refusal = StopsFault names (IsLeastOfThree d
 
 -- and a text that holds no plan of a value
 abbrev pub StopsFor : List Word → Pddl → List ℕ → Refusal → Type 0
-StopsFor names value plan refusal = (domain problem : List ℕ) → pddl.IsValueOf domain problem value → StopsPlan names domain problem plan refusal
+StopsFor names value plan refusal = (domain problem : List ℕ)
+    → pddl.IsValueOf domain problem value → StopsPlan names domain problem plan refusal
 
 -- a bound that was not computed
 abbrev pub StopsBound : Compiled → Refusal → Type 0
@@ -162,7 +165,8 @@ StopsPrint text old new _ = ⊥
 abbrev pub StopsDelivery : Output → FilesState → FilesState → SinkState → SinkState → Refusal → Type 0
 StopsDelivery output old new out out' (refused.Failure (failure.Writing word)) = FailsToPut output.texts word.now old new × (out' ≡ out)
 StopsDelivery output old new out out' (refused.Failure failure.Telling) = StandsUpTo TakesThenFails output old new out out'
-StopsDelivery output old new out out' (refused.Failure failure.Memory) = (StandInPart output.texts old new × (out' ≡ out)) ⊎ StandsUpTo TakesThenStarves output old new out out'
+StopsDelivery output old new out out' (refused.Failure failure.Memory) =
+    (StandInPart output.texts old new × (out' ≡ out)) ⊎ StandsUpTo TakesThenStarves output old new out out'
 StopsDelivery output old new out out' _ = ⊥
 
 -- a request that gives no output

@@ -25,7 +25,9 @@ AreSlotsOf compiled None n = IsBound compiled n
 -- what a translation gives: both texts for the files of these names, and the number of slots
 abbrev pub translation_output : Names → Texts → ℕ → Output
 translation_output names texts slots = record {
-  texts = record { name = names.printed_domain; bytes = texts.domain } ∷ record { name = names.printed_problem; bytes = texts.problem } ∷ [];
+  texts =
+      record { name = names.printed_domain; bytes = texts.domain }
+      ∷ record { name = names.printed_problem; bytes = texts.problem } ∷ [];
   told = slots_line slots;
 }
 
@@ -52,10 +54,12 @@ module _ (request : TranslationRequest) (domain problem : List ℕ) where
 
   -- the refusals of texts without a fault
   abbrev pub RefusesTranslation : Refusal → Type 0
-  RefusesTranslation (refused.Finding (finding.NotTailRecursive words)) = (request.numeral ≡ None) × HaveCycle domain problem request.checks words
+  RefusesTranslation (refused.Finding (finding.NotTailRecursive words)) =
+      (request.numeral ≡ None) × HaveCycle domain problem request.checks words
   RefusesTranslation (refused.Limit limit.Bound) = RefusesBoundOf (refused.Limit limit.Bound)
   RefusesTranslation (refused.Limit (limit.Slots n)) = RefusesBoundOf (refused.Limit (limit.Slots n))
-  RefusesTranslation (refused.Limit (limit.Output n)) = (compiled : Compiled) × (slots : ℕ) × IsForSlots compiled slots × AreTooLong compiled (manner_with slots) n
+  RefusesTranslation (refused.Limit (limit.Output n)) =
+      (compiled : Compiled) × (slots : ℕ) × IsForSlots compiled slots × AreTooLong compiled (manner_with slots) n
   RefusesTranslation _ = ⊥
 
   -- and what is given

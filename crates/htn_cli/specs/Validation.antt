@@ -37,8 +37,10 @@ module _ (domain problem plan : List ℕ) where
 
   -- the refusals of texts without a fault
   abbrev pub RefusesPlan : Refusal → Type 0
-  RefusesPlan (refused.Limit (limit.Steps n)) = (c : Pddl) × (steps : List GroundAction) × Spell c steps × (n ≡ length steps) × (most_steps < n)
-  RefusesPlan (refused.Finding (finding.NotAPlan step why)) = (c : Pddl) × (steps : List GroundAction) × SpellFew c steps × Fails c steps step why
+  RefusesPlan (refused.Limit (limit.Steps n)) =
+      (c : Pddl) × (steps : List GroundAction) × Spell c steps × (n ≡ length steps) × (most_steps < n)
+  RefusesPlan (refused.Finding (finding.NotAPlan step why)) =
+      (c : Pddl) × (steps : List GroundAction) × SpellFew c steps × Fails c steps step why
   RefusesPlan _ = ⊥
 
   -- the steps are a plan of the problem

@@ -34,4 +34,5 @@ pub record TellsBound (request : BoundRequest) (d p : List ℕ) (out out' : Sink
 
 module _ (words : List Word) (files : FilesState) (out out' : SinkState) where
   abbrev pub HasBound : Type 0
-  HasBound = (request : BoundRequest) (d p : List ℕ) → AsksBound words request → AreToldToRead files (request.domain ∷ request.problem ∷ []) (d ∷ p ∷ []) → TellsBound request d p out out'
+  HasBound = (request : BoundRequest) (d p : List ℕ) → AsksBound words request
+      → AreToldToRead files (request.domain ∷ request.problem ∷ []) (d ∷ p ∷ []) → TellsBound request d p out out'

@@ -50,4 +50,5 @@ TellsFinding _ _ err err' = Unit {0}
 
 module _ (words : List Word) (files : FilesState) (err err' : SinkState) where
   abbrev pub HasFinding : Type 0
-  HasFinding = (request : Request) (texts : List (List ℕ)) → Asks words request → AreToldToRead files (inputs_of request) texts → TellsFinding request texts err err'
+  HasFinding = (request : Request) (texts : List (List ℕ)) → Asks words request → AreToldToRead files (inputs_of request) texts
+      → TellsFinding request texts err err'

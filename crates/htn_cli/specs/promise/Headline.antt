@@ -1,4 +1,5 @@
--- What a translation promises of the problem that its inputs spell, for all that the files tell of the inputs before, and of the outputs after.
+-- What a translation promises of the problem that its inputs spell, for all that the files tell of the inputs before, and of the outputs
+-- after.
 -- Source: this project's, after the translation of Alford et al., "Bound to Plan", ICAPS 2016.
 use Rattle.std.specs.Prelude.{ℕ, ◌≡◌, List, None, IfSome}
 use Rattle.outside_io.specs.Files.{FilesState}

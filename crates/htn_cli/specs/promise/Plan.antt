@@ -21,4 +21,5 @@ pub record TellsPlan (pd pp plan : List ℕ) (out out' : SinkState) : Type 0 whe
 
 module _ (words : List Word) (files : FilesState) (out out' : SinkState) where
   abbrev pub HasPlan : Type 0
-  HasPlan = (request : ValidationRequest) (pd pp plan : List ℕ) → AsksValidation words request → AreToldToRead files (request.domain ∷ request.problem ∷ request.plan ∷ []) (pd ∷ pp ∷ plan ∷ []) → TellsPlan pd pp plan out out'
+  HasPlan = (request : ValidationRequest) (pd pp plan : List ℕ) → AsksValidation words request
+      → AreToldToRead files (request.domain ∷ request.problem ∷ request.plan ∷ []) (pd ∷ pp ∷ plan ∷ []) → TellsPlan pd pp plan out out'
