@@ -1,0 +1,3 @@
+pub mod PrintedParts
+pub mod Least
+pub mod examples
