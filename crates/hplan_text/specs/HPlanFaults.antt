@@ -5,9 +5,10 @@ use Rattle.std.specs.List.{filter_map, list_any}
 use Rattle.plan_texts.specs.Types.{Has}
 use Rattle.text_forms.specs.Faults.{Fault, fault, IsBefore}
 use Rattle.hplan_text.specs.declared.values.HNode.{HNode}
+use Rattle.hplan_text.specs.declared.mention.Mention.{Mention}
 use Rattle.hplan_text.specs.declared.values.HPlan.{HPlan}
 use Rattle.hplan_text.specs.Lines.{Line, Marked, marked}
-use Rattle.hplan_text.specs.Rows.{Mention, Row, bad, top, primitive, decomposed, row, number}
+use Rattle.hplan_text.specs.Rows.{Row, bad, top, primitive, decomposed, row, number}
 use Rattle.hplan_text.specs.SpellsHPlan.{rows, own_ids, all_listed, plan_of}
 
 -- the place of a line without a form
@@ -68,8 +69,11 @@ abbrev pub faults_at : ℕ → List Mention → List Fault
 faults_at code ms = map (λ m. fault code m.at) ms
 
 -- 32: an id in front of a line that stands in front of an earlier one; 33: a listed id that no line has; 34: an id that was listed before
+abbrev pub id_faults_of : (own listed : List Mention) → List Fault
+id_faults_of own listed = faults_at 32 (repeats own) ++ (faults_at 33 (others (map number own) listed) ++ faults_at 34 (repeats listed))
+
 abbrev pub id_faults : List Row → List Fault
-id_faults rs = faults_at 32 (repeats (own_ids rs)) ++ (faults_at 33 (others (map number (own_ids rs)) (all_listed rs)) ++ faults_at 34 (repeats (all_listed rs)))
+id_faults rs = id_faults_of (own_ids rs) (all_listed rs)
 
 abbrev pub faults_of_ids : Option Marked → List Fault
 faults_of_ids None = []

@@ -4,4 +4,9 @@ pub mod Rows
 pub mod SpellsHPlan
 pub mod HPlanFaults
 pub mod Reading
+pub mod Scanning
+pub mod LeastOf
+pub mod Drafts
+pub mod Sets
+pub mod Walks
 pub mod ShownPlan

@@ -5,7 +5,6 @@ use Rattle.std.specs.Option.{option_map}
 use Rattle.std.specs.List.{filter_map}
 use Rattle.std.specs.Str.{bytes_eq}
 use Rattle.std.specs.Str.Lines.{strip_carriage_return}
-use Rattle.htn_base.specs.Words.{folded}
 
 -- bytes at a place
 pub record Piece : Type 0 where
@@ -33,14 +32,14 @@ is_line_end b = b == 10
 abbrev pub is_blank : ℕ → Bool
 is_blank b = b == 32 || b == 9
 
--- a word where it stands, in lower case
+-- a word where it stands
 pub record Said : Type 0 where
   pub at : ℕ
   pub word : List ℕ
 
 abbrev pub said_by : ℕ → List ℕ → Option Said
 said_by at [] = None
-said_by at (b ∷ bs) = Some (record { at = at; word = folded (b ∷ bs) })
+said_by at (b ∷ bs) = Some (record { at = at; word = b ∷ bs })
 
 abbrev pub said : Piece → Option Said
 said p = said_by p.at p.bytes

@@ -5,50 +5,40 @@ use Rattle.std.specs.Char.{is_ascii_digit}
 use Rattle.std.specs.List.{list_all}
 use Rattle.std.specs.Str.{bytes_eq}
 use Rattle.std.specs.Str.Parse.{digits_value}
+use Rattle.htn_base.specs.Words.{folded}
+use Rattle.hplan_text.specs.declared.mention.Mention.{Mention}
 use Rattle.hplan_text.specs.declared.values.HLine.{HLine}
 use Rattle.hplan_text.specs.declared.values.HNode.{HNode}
 use Rattle.hplan_text.specs.Lines.{Said, Line}
-
--- an id where it stands
-pub record Mention : Type 0 where
-  pub id : ℕ
-  pub at : ℕ
 
 -- 1 to 20 digits of a number below 2^64
 abbrev pub is_id : List ℕ → Bool
 is_id w = nat_lt 0 (length w) && (nat_le (length w) 20 && (list_all is_ascii_digit w && nat_lt (digits_value 10 w) (2 ^ 64)))
 
-abbrev pub mention_if : Bool → Said → Option Mention
-mention_if true s = Some (record { id = digits_value 10 s.word; at = s.at })
-mention_if false s = None
+-- the id that a word is, where it stands
+abbrev pub mention : Said → Mention
+mention s = record { id = digits_value 10 s.word; at = s.at }
 
-abbrev pub mention : Said → Option Mention
-mention s = mention_if (is_id s.word) s
+abbrev pub are_ids : List Said → Bool
+are_ids ss = list_all (λ s. is_id s.word) ss
 
 abbrev pub is_word_byte : ℕ → Bool
 is_word_byte b = nat_le 33 b && nat_le b 126
 
+abbrev pub is_arrow : List ℕ → Bool
+is_arrow w = bytes_eq w (codes "->")
+
 -- bytes 33 to 126, and not the arrow: what may be a name, an argument or a method
 abbrev pub is_name : List ℕ → Bool
-is_name w = list_all is_word_byte w && not (bytes_eq w (codes "->"))
+is_name w = list_all is_word_byte w && not (is_arrow w)
 
-abbrev pub with_mention : Option Mention → Option (List Mention) → Option (List Mention)
-with_mention (Some m) (Some ms) = Some (m ∷ ms)
-with_mention (Some m) None = None
-with_mention None o = None
-
--- the ids, where each word is one
-abbrev pub mentions : List Said → Option (List Mention)
-mentions [] = Some []
-mentions (s ∷ ss) = with_mention (mention s) (mentions ss)
-
--- the names in front of the first word that is none, and the words from there on
+-- the names, in lower case, in front of the first word that is none, and the words from there on
 pub record Named : Type 0 where
   pub names : List (List ℕ)
   pub behind : List Said
 
 abbrev pub with_name : Bool → Said → List Said → Named → Named
-with_name true s ss n = record { names = s.word ∷ n.names; behind = n.behind }
+with_name true s ss n = record { names = folded s.word ∷ n.names; behind = n.behind }
 with_name false s ss n = record { names = []; behind = s ∷ ss }
 
 abbrev pub named : List Said → Named
@@ -62,33 +52,32 @@ pub data Row : Type 0 where
   primitive : Mention → (name : List ℕ) → (args : List (List ℕ)) → Row
   decomposed : Mention → (name : List ℕ) → (args : List (List ℕ)) → (method : List ℕ) → List Mention → Row
 
-abbrev pub top_row : Option (List Mention) → Row
-top_row None = bad
-top_row (Some ids) = top ids
+abbrev pub top_row : Bool → List Said → Row
+top_row true ids = top (map mention ids)
+top_row false ids = bad
 
-abbrev pub node_row : Bool → Mention → List ℕ → List (List ℕ) → List ℕ → Option (List Mention) → Row
-node_row true m name args method (Some ids) = decomposed m name args method ids
-node_row true m name args method None = bad
-node_row false m name args method o = bad
-
-abbrev pub is_arrow : List ℕ → Bool
-is_arrow w = bytes_eq w (codes "->")
+abbrev pub node_row : Bool → Mention → List ℕ → List (List ℕ) → Said → List Said → Row
+node_row true m name args method ids = decomposed m name args (folded method.word) (map mention ids)
+node_row false m name args method ids = bad
 
 -- behind an id: `name args`, or `name args -> method ids`
 abbrev pub task_row : Mention → List (List ℕ) → List Said → Row
 task_row m [] behind = bad
 task_row m (name ∷ args) [] = primitive m name args
 task_row m (name ∷ args) (arrow ∷ []) = bad
-task_row m (name ∷ args) (arrow ∷ method ∷ ids) = node_row (is_arrow arrow.word && is_name method.word) m name args method.word (mentions ids)
+task_row m (name ∷ args) (arrow ∷ method ∷ ids) = node_row (is_arrow arrow.word && (is_name method.word && are_ids ids)) m name args method ids
 
-abbrev pub row_by : Bool → Option Mention → List Said → Row
-row_by true o ss = top_row (mentions ss)
-row_by false None ss = bad
-row_by false (Some m) ss = task_row m (named ss).names (named ss).behind
+abbrev pub row_by : (root : Bool) → (id : Bool) → Line → Row
+row_by true id line = top_row (are_ids line.more) line.more
+row_by false true line = task_row (mention line.first) (named line.more).names (named line.more).behind
+row_by false false line = bad
+
+abbrev pub is_root : List ℕ → Bool
+is_root w = bytes_eq (folded w) (codes "root")
 
 -- `root ids`, or a task behind its id
 abbrev pub row : Line → Row
-row line = row_by (bytes_eq line.first.word (codes "root")) (mention line.first) line.more
+row line = row_by (is_root line.first.word) (is_id line.first.word) line
 
 -- the parts of a plan that rows are
 

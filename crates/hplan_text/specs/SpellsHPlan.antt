@@ -3,9 +3,10 @@
 use Rattle.std.specs.Prelude.{ℕ, ◌≡◌, false, List, [], ◌∷◌, ◌++◌, map, Some}
 use Rattle.std.specs.List.{filter_map}
 use Rattle.plan_texts.specs.Types.{EachIs}
+use Rattle.hplan_text.specs.declared.mention.Mention.{Mention}
 use Rattle.hplan_text.specs.declared.values.HPlan.{HPlan}
 use Rattle.hplan_text.specs.Lines.{Marked, marked}
-use Rattle.hplan_text.specs.Rows.{Mention, Row, row, number, primitive_line, top_ids, node, own_id, listed_ids, is_bad}
+use Rattle.hplan_text.specs.Rows.{Row, row, number, primitive_line, top_ids, node, own_id, listed_ids, is_bad}
 
 abbrev pub rows : Marked → List Row
 rows m = map row m.lines

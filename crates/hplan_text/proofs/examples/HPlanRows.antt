@@ -4,14 +4,14 @@ use Rattle.std.specs.Fmt.{decimal}
 use Rattle.std.proofs.lemmas.Fmt.{decimal-digits_of}
 use Rattle.plan_texts.specs.Types.{Has}
 use Rattle.text_forms.specs.Faults.{Fault, fault, IsBefore}
+use Rattle.hplan_text.specs.declared.mention.Mention.{Mention}
 use Rattle.hplan_text.specs.declared.values.HPlan.{HPlan}
 use Rattle.hplan_text.specs.HPlanText.{hplan_text}
 use Rattle.hplan_text.specs.Lines.{marked}
-use Rattle.hplan_text.specs.Rows.{Mention}
 use Rattle.hplan_text.specs.SpellsHPlan.{SpellsHPlan}
 use Rattle.hplan_text.specs.HPlanFaults.{IsLeastFault, Reaches, lists, leads, IsTreeFault}
 use Rattle.hplan_text.specs.Reading.{IsHPlanRead}
-use Rattle.hplan_text.proofs.Least.{only-line, only-id, least-tree, faultless, itself}
+use Rattle.hplan_text.proofs.PhaseFaults.{only-line, only-id, least-tree, faultless, itself}
 
 -- an id without a name
 pub no_name : IsLeastFault (codes "==>\n0\nroot 0\n<==\n") (fault 31 4)
