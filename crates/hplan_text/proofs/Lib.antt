@@ -1,0 +1,14 @@
+pub mod PrintedParts
+pub mod Scanned
+pub mod Digits
+pub mod Rowed
+pub mod PhaseFaults
+pub mod LeastFound
+pub mod Drafted
+pub mod Numbered
+pub mod Indexed
+pub mod Walked
+pub mod ReadLines
+pub mod Judged
+pub mod OneHPlan
+pub mod examples

@@ -1,0 +1,60 @@
+-- What was read of some lines.
+-- Source: this project's.
+use Rattle.std.specs.Prelude.{ℕ, ◌≡◌, ◌⊎◌, Bool, true, false, List, [], ◌∷◌, map, drop, Option, Some, None}
+use Rattle.text_forms.specs.Faults.{Fault, fault, IsBefore}
+use Rattle.hplan_text.specs.declared.values.HLine.{HLine}
+use Rattle.hplan_text.specs.declared.draft.Draft.{Draft}
+use Rattle.text_forms.specs.declared.sexpr_text.read_error.ReadError.{ReadError}
+use Rattle.text_forms.specs.declared.sexpr_text.read_error.ReadError.TheVariants as errors
+use Rattle.hplan_text.specs.declared.least.Found.{Found}
+use Rattle.hplan_text.specs.Lines.{Said, Line, Marked}
+use Rattle.hplan_text.specs.Rows.{row}
+use Rattle.hplan_text.specs.SpellsHPlan.{rows, own_ids, all_listed, tops, plan_of}
+use Rattle.hplan_text.specs.HPlanFaults.{bad_places, top_places, line_faults, id_faults, IsUnreached}
+use Rattle.hplan_text.specs.LeastOf.{as_fault, IsLeastOf}
+
+-- the task of an id, a name and arguments
+abbrev pub IsTask : ℕ → List (List ℕ) → HLine → Type 0
+IsTask id [] line = line ≡ record { id = id; name = []; args = [] }
+IsTask id (name ∷ args) line = line ≡ record { id = id; name = name; args = args }
+
+abbrev pub are_some : {X : Type 0} → List X → Bool
+are_some [] = false
+are_some (x ∷ xs) = true
+
+-- the plan and the ids of these lines, whether there is a root line, and the least faults
+pub record IsDraft (lines : List Line) (d : Draft) : Type 0 where
+  pub plan_is : d.plan ≡ plan_of (map row lines)
+  pub own : d.own.items ≡ own_ids (map row lines)
+  pub listed : d.listed.items ≡ all_listed (map row lines)
+  pub rooted : d.rooted ≡ are_some (tops (map row lines))
+  pub bad_ones : IsLeastOf d.bad (map (fault 31) (bad_places lines))
+  pub second : IsLeastOf d.second (map (fault 31) (drop 1 (top_places lines)))
+
+abbrev pub between : List Line → ℕ → Marked
+between ls end = record { lines = ls; end = end }
+
+-- these are the lines between the markers, and they are in the draft; or a marker isn't there
+abbrev pub Drafts : Option Marked → Draft → Option ℕ → Type 0
+Drafts o d None = o ≡ None
+Drafts o d (Some end) = (ls : List Line) × IsDraft ls d × (o ≡ Some (between ls end))
+
+abbrev pub FirstAt : List Said → Option ℕ → Type 0
+FirstAt [] o = o ≡ None
+FirstAt (s ∷ ss) o = o ≡ Some s.at
+
+-- the least of the unreached lines
+abbrev pub IsFirstUnreached : Marked → Option Found → Type 0
+IsFirstUnreached m None = (g : Fault) → IsUnreached (rows m) g → ⊥
+IsFirstUnreached m (Some f) = IsUnreached (rows m) (as_fault f) × ((g : Fault) → IsUnreached (rows m) g → IsBefore (as_fault f) g)
+
+-- the least fault of the first phase that has any
+abbrev pub Judges : Marked → Option Found → Type 0
+Judges m None = (line_faults m ≡ []) × (id_faults (rows m) ≡ []) × IsFirstUnreached m None
+Judges m (Some f) =
+    IsLeastOf (Some f) (line_faults m) ⊎ ((line_faults m ≡ []) × IsLeastOf (Some f) (id_faults (rows m))) ⊎ ((line_faults m ≡ []) × (id_faults (rows m) ≡ []) × IsFirstUnreached m (Some f))
+
+-- why a draft is refused; or memory ran out
+abbrev pub RefusedBy : ℕ → Marked → ReadError → Type 0
+RefusedBy file m errors.Memory = Unit {0}
+RefusedBy file m (errors.Bad f) = (f.file ≡ file) × Judges m (Some (record { at = f.at; code = f.code }))

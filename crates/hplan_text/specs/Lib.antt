@@ -1,0 +1,12 @@
+pub mod HPlanText
+pub mod Lines
+pub mod Rows
+pub mod SpellsHPlan
+pub mod HPlanFaults
+pub mod Reading
+pub mod Scanning
+pub mod LeastOf
+pub mod Drafts
+pub mod Sets
+pub mod Walks
+pub mod ShownPlan

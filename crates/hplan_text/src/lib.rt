@@ -1,0 +1,26 @@
+//! Hierarchical plans as texts, in the format of the planning competition of 2020.
+//!
+//! Stands on `text_forms` for sheets and faults, and on `htn_base`. The contract used above: `print` puts the text of a plan on a
+//! sheet, byte for byte as `specs/HPlanText` has it. `read` answers a plan exactly where the text has no fault, and then the text
+//! spells it, and no other (`a_text_spells_one_hplan`); else the least fault by phase, place and code (`specs/HPlanFaults`).
+//! Which plan a tree and its schedule show is said in `specs/ShownPlan`.
+#![tactic(auto)]
+
+mod draft;
+mod ids;
+mod judging;
+mod laws;
+mod least;
+mod lines;
+mod mention;
+mod printing;
+mod reaching;
+mod reading;
+mod rows;
+mod values;
+mod words;
+
+pub use laws::a_text_spells_one_hplan;
+pub use printing::print;
+pub use reading::read;
+pub use values::{HLine, HNode, HPlan};
