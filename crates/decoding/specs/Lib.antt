@@ -1,0 +1,15 @@
+pub mod FailingAct
+pub mod FailingLaws
+pub mod Waiting
+pub mod WaitingLaws
+pub mod PrintedSteps
+pub mod PrintedLaws
+pub mod HeldLeaves
+pub mod HeldLaws
+pub mod Counted
+pub mod CountedLaws
+pub mod Keeping
+pub mod KeepingLaws
+pub mod TakenSteps
+pub mod TakenLaws
+pub mod CompiledLaws
