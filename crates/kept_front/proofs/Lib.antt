@@ -1,0 +1,5 @@
+pub mod LeafLaws
+pub mod LaterLaws
+pub mod SlotLaws
+pub mod Lowering
+pub mod Walking

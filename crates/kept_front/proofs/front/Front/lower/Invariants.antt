@@ -1,0 +1,10 @@
+use Rattle.std.proofs.Common.{◌≡◌}
+use Rattle.kept_front.proofs.Lowering.{AreLowered}
+use Rattle.kept_front.proofs.front.Front.lower.Given as goal
+
+abbrev pub invariant-loop-child : goal.invariant-loop-child
+invariant-loop-child l = record {
+  growths : l.self.growths ≡ l.initial.self.growths;
+  nodes : l.self.nodes ≡ l.initial.self.nodes;
+  lowered : AreLowered l.initial.self.nodes l.parent l.later l.initial.self.leaves l.self.leaves l.child-index;
+}

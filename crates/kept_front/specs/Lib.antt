@@ -1,0 +1,4 @@
+pub mod Leaves
+pub mod Nodes
+pub mod Later
+pub mod Fronts

@@ -1,0 +1,124 @@
+ghost use Rattle.std.specs.Prelude.{ℕ, List as Items, ◌≡◌, ◌≤◌, ◌++◌, ◌∷◌, [], IfOk};
+ghost use Rattle.std.specs.Option.{option_copied};
+ghost use Rattle.plan_model.specs.task_networks.Spelling.{Act};
+ghost use Rattle.plan_model.specs.task_networks.Lawful.{IsLawful};
+ghost use Rattle.plan_model.specs.plan_meaning.Network.{network};
+ghost use Rattle.plan_model.specs.declared.values.Compiled.{Compiled as compiled};
+ghost use Rattle.kept_front.specs.Leaves.{leaf_at, room};
+ghost use Rattle.kept_front.specs.Later.{AreAllLater};
+ghost use Rattle.kept_front.specs.Fronts as spec;
+
+use crate::later::Later;
+use crate::leaves::{Leaf, Leaves};
+use crate::nodes::Nodes;
+use htn_base::{List, Memory};
+use plan_model::Compiled;
+use std::alloc::Global;
+use tree_core::{Growth, Label};
+
+/// All that is kept of a front: the open leaves by their slots, what is kept of the growths, and the growths.
+pub struct Front {
+    leaves: Leaves,
+    nodes: Nodes,
+    growths: List<Growth>,
+}
+
+impl Drop for Front {
+    fn drop(self) {
+        let Front {
+            leaves: _,
+            nodes: _,
+            growths: _,
+        } = self;
+    }
+}
+
+impl Front {
+    /// The front of the top task alone, in slot 1 of so many.
+    pub fn new(alloc: Global, slots: u32) -> Result<Front, Memory>
+        requires some { 1 ≤ slots }
+        ensures room { IfOk result (λ front. room front.leaves ≡ slots) }
+        ensures first { IfOk result (λ front. (c : compiled) → spec.IsFirstOf c front) }
+    {
+        let mut leaves = Leaves::none(alloc, slots as usize)?;
+        let top = Leaf {
+            parent: None,
+            child: 0,
+            blocked: 0,
+        };
+        leaves.put(1, Some(top));
+        Ok(Front {
+            leaves,
+            nodes: Nodes::none(alloc),
+            growths: List::new(alloc),
+        })
+    }
+
+    /// What the slot holds.
+    pub fn leaf(&self, slot: u32) -> Option<Leaf>
+        ensures { result ≡ leaf_at self.now.leaves slot }
+    {
+        self.leaves.at(slot)
+    }
+
+    /// A child of the parent has become whole: those that come right after it, and the parent, have one less to wait for.
+    fn lower(&mut self, parent: u32, later: &[u32])
+        requires may { spec.MayLower parent later.now self.old }
+        ensures lowered { spec.IsLowered parent later.now self.old self.new }
+    {
+        for child in later {
+            let slot = self.nodes.child_slot(parent, *child);
+            self.leaves.lower(slot);
+        }
+        self.nodes.lower(parent);
+    }
+
+    /// The place of the growth's parent. `None` where the growth is that of the root.
+    fn parent(&self, growth: u32) -> Option<u32>
+        ensures { result ≡ spec.parent_at self.now growth }
+    {
+        self.growths.get(growth as usize)?.parent
+    }
+
+    /// The growth's number among the children of its parent.
+    fn child(&self, growth: u32) -> u32
+        ensures { result ≡ spec.child_at self.now growth }
+    {
+        match self.growths.get(growth as usize) {
+            Some(growth) => growth.child,
+            None => 0,
+        }
+    }
+
+    /// What comes right after each child of the growth, where it is a task that is decomposed by a method.
+    fn later<'l>(&self, growth: u32, later: &'l [Later]) -> Option<&'l Later>
+        ensures { option_copied result ≡ spec.later_at later.now self.now growth }
+    {
+        match &self.growths.get(growth as usize)?.label {
+            Label::Abstract { method, .. } => later.get(*method as usize),
+            _ => None,
+        }
+    }
+
+    /// What stands at the growth has become whole. From there it goes up, as far as parents become whole.
+    fn walk(&mut self, c: &Compiled, later: &[Later], growth: u32)
+        requires lawful { IsLawful (network c.now) }
+        requires later { AreAllLater c.now later.now }
+        requires whole { spec.IsSomeWholeAt c.now self.old growth }
+        ensures { (b : ℕ) (acts : Items (Act (network c.now))) (a : Act (network c.now))
+            → spec.IsWholeAt c.now b self.old growth acts a → spec.IsFrontOf c.now b self.new (acts ++ a ∷ []) }
+    {
+        let mut whole = growth;
+        while let Some(parent) = self.parent(whole) {
+            let child = self.child(whole);
+            let Some(later) = self.later(parent, later) else {
+                return;
+            };
+            self.lower(parent, later.after(child));
+            if self.nodes.unfinished(parent) > 0 {
+                return;
+            }
+            whole = parent;
+        }
+    }
+}

@@ -1,0 +1,45 @@
+ghost use Rattle.std.specs.Prelude.{◌≡◌, length, IfOk};
+ghost use Rattle.plan_model.specs.net_order.Meaning.{AreBelow};
+ghost use Rattle.kept_front.specs.Later as spec;
+
+use htn_base::{List, Memory};
+use plan_model::MethodPlan;
+use std::alloc::Global;
+
+/// For each child of a network those that it comes right before.
+pub struct Later {
+    by_child: Vec<List<u32>>,
+}
+
+impl Drop for Later {
+    fn drop(self) {
+        let Later { by_child: _ } = self;
+    }
+}
+
+impl Later {
+    /// Those of a method.
+    pub fn of(alloc: Global, plan: &MethodPlan) -> Result<Later, Memory>
+        requires below { AreBelow (length plan.now.schema.children) plan.now.schema.pairs }
+        ensures later { IfOk result (spec.AreLater plan.now.schema.pairs) }
+    {
+        let mut by_child = Vec::new(alloc);
+        while by_child.len() < plan.schema.children.len() {
+            by_child.push(List::new(alloc))?;
+        }
+        for pair in plan.schema.pairs.as_slice() {
+            by_child[pair.first as usize].push(pair.then)?;
+        }
+        Ok(Later { by_child })
+    }
+
+    /// Those that the child comes right before.
+    pub fn after(&self, child: u32) -> &[u32]
+        ensures { result.now ≡ spec.after self.now child }
+    {
+        match self.by_child.get(child as usize) {
+            Some(list) => list.as_slice(),
+            None => &[],
+        }
+    }
+}

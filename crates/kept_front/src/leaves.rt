@@ -1,0 +1,73 @@
+ghost use Rattle.std.specs.Prelude.{ℕ, ◌≡◌, ◌≢◌, ◌+◌, ◌≤◌, ◌<◌, IfOk, None};
+ghost use Rattle.kept_front.specs.Leaves as spec;
+
+use htn_base::Memory;
+use std::alloc::Global;
+
+/// An open leaf: the place of its parent among the growths, its number among the parent's children, and how many of those
+/// that come right before it are not whole. The root has no parent, and the number 0.
+#[derive(Clone, Copy)]
+pub struct Leaf {
+    pub parent: Option<u32>,
+    pub child: u32,
+    pub blocked: u32,
+}
+
+/// The open leaves by their slots, which count from 1.
+pub struct Leaves {
+    by_slot: Vec<Option<Leaf>>,
+}
+
+impl Drop for Leaves {
+    fn drop(self) {
+        let Leaves { by_slot: _ } = self;
+    }
+}
+
+impl Leaves {
+    /// No leaves, in so many slots.
+    pub(crate) fn none(alloc: Global, slots: usize) -> Result<Leaves, Memory>
+        ensures room { IfOk result (λ leaves. spec.room leaves ≡ slots) }
+        ensures none { IfOk result (λ leaves. (x : ℕ) → spec.leaf_at leaves x ≡ None) }
+    {
+        let by_slot = vec![in alloc; None; slots]?;
+        Ok(Leaves { by_slot })
+    }
+
+    /// What the slot holds.
+    pub fn at(&self, slot: u32) -> Option<Leaf>
+        ensures leaf { result ≡ spec.leaf_at self.now slot }
+    {
+        if slot == 0 {
+            return None;
+        }
+        match self.by_slot.get(slot as usize - 1) {
+            Some(leaf) => *leaf,
+            None => None,
+        }
+    }
+
+    /// Puts this into the slot.
+    pub(crate) fn put(&mut self, slot: u32, leaf: Option<Leaf>)
+        requires slot { (1 ≤ slot) × (slot ≤ spec.room self.old) }
+        ensures room { spec.room self.new ≡ spec.room self.old }
+        ensures here { spec.leaf_at self.new slot ≡ leaf }
+        ensures others { (x : ℕ) → x ≢ slot → spec.leaf_at self.new x ≡ spec.leaf_at self.old x }
+    {
+        self.by_slot[slot as usize - 1] = leaf;
+    }
+
+    /// One less that comes right before what the slot holds is not whole.
+    pub(crate) fn lower(&mut self, slot: u32)
+        requires some { 0 < spec.blocked_at self.old slot }
+        ensures room { spec.room self.new ≡ spec.room self.old }
+        ensures here { spec.blocked_at self.old slot ≡ spec.blocked_at self.new slot + 1 }
+        ensures others { (x : ℕ) → x ≢ slot → spec.leaf_at self.new x ≡ spec.leaf_at self.old x }
+        ensures places { (x : ℕ) → spec.place_at self.new x ≡ spec.place_at self.old x }
+    {
+        if let Some(leaf) = self.at(slot) {
+            let blocked = leaf.blocked - 1;
+            self.put(slot, Some(Leaf { blocked, ..leaf }));
+        }
+    }
+}
