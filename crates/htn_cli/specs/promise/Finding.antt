@@ -46,7 +46,7 @@ abbrev pub TellsFinding : Request → List (List ℕ) → SinkState → SinkStat
 TellsFinding (to_translate request) (d ∷ p ∷ []) err err' = TellsCycle request.checks d p err err'
 TellsFinding (to_bound request) (d ∷ p ∷ []) err err' = TellsCycle request.checks d p err err'
 TellsFinding (to_validate request) (pd ∷ pp ∷ plan ∷ []) err err' = TellsFailure pd pp plan err err'
-TellsFinding _ _ err err' = Unit {0}
+TellsFinding _ _ err err' = ⊥
 
 module _ (words : List Word) (files : FilesState) (err err' : SinkState) where
   abbrev pub HasFinding : Type 0
