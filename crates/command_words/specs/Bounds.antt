@@ -3,12 +3,9 @@ use Rattle.std.specs.Prelude.{ℕ, ◌≡◌, ◌<◌, ◌≤◌, ◌^◌, IsTru
 use Rattle.std.specs.List.{list_all}
 use Rattle.std.specs.Char.{is_ascii_digit}
 use Rattle.std.specs.Str.Parse.{digits_value}
+use Rattle.htn_base.specs.Limits.{most_slots}
 use Rattle.command_words.specs.declared.bounds.Bound.{Bound}
 use Rattle.command_words.specs.declared.bounds.Bound.TheVariants.{Slots, TooMany, PastAll}
-
--- the greatest number of slots
-abbrev pub most_slots : ℕ
-most_slots = 65536
 
 -- a word that says a number of slots: 1 to 39 decimal digits, leading zeros among them, and not the number zero
 pub record IsNumeral (word : List ℕ) : Type 0 where

@@ -4,11 +4,10 @@ ghost use Rattle.std.specs.Char.{is_ascii_digit};
 ghost use Rattle.std.specs.Str.Parse.{digits_value};
 ghost use Rattle.command_words.specs.Bounds.{IsNumeral, ComesTo};
 
+use htn_base::limits::MOST_SLOTS;
+
 /// The greatest number of digits of a numeral.
 const LONGEST_NUMERAL: usize = 39;
-
-/// The greatest number of slots.
-const MOST_SLOTS: u128 = 65_536;
 
 /// What a number of slots comes to.
 #[derive(Clone, Copy)]

@@ -1,18 +1,20 @@
 -- What a run promises of the problem that its inputs spell, from what it wrote and told.
-use Rattle.std.proofs.Common.{ℕ, ◌≡◌, ◌++◌, Bool, List, [], ◌∷◌, Option, Some, None, IfSome, option_map, codes, sym, ap, ◌∙◌, subst, inl, inr, arith}
+use Rattle.std.proofs.Common.{ℕ, ◌≡◌, ◌≤◌, ◌++◌, Bool, List, [], ◌∷◌, Option, Some, None, IfSome, option_map, codes, refl, sym, ap, ◌∙◌, subst, inl, inr, arith}
 use Rattle.outside_io.specs.Folder.{Folder, file_of}
 use Rattle.outside_io.specs.Files.{FilesState}
 use Rattle.outside_io.specs.Sink.{SinkState}
 use Rattle.plan_model.specs.declared.options.Checks.{Checks}
-use Rattle.plan_model.specs.declared.values.Hddl.{Hddl}
 use Rattle.plan_model.specs.declared.values.Compiled.{Compiled}
+use Rattle.plan_model.specs.declared.values.Hddl.{Hddl}
 use Rattle.plan_texts.specs.FirstSeen.{IsHddlOf}
 use Rattle.plan_texts.specs.PrintedTexts.{domain_text, problem_text}
 use Rattle.plan_model.specs.plan_meaning.Compilation.{IsCompiled}
 use Rattle.plan_model.specs.plan_meaning.Bound.{IsBound}
+use Rattle.plan_model.specs.plan_meaning.Network.{network}
+use Rattle.slot_machine.proofs.SpellingSteps.{open_pending, pending_open}
+use Rattle.slot_machine.proofs.bound_laws.EveryFront.{every_front_is_within}
 use Rattle.plan_model.proofs.plan_meaning.FailingLaws.{each_is_plan_or_fails}
-use Rattle.ground_state.specs.Runs.{cause}
-use Rattle.ground_state.specs.declared.verdict.FailWhy.{FailWhy}
+use Rattle.plan_model.specs.declared.causes.FailWhy.{FailWhy}
 use Rattle.plan_proof.specs.Headline.{Headline, HeadlineAtBound}
 use Rattle.plan_proof.proofs.texts.SamePlans.{spelled-plans}
 use Rattle.plan_proof.proofs.values.Headlines.{printed_too, headline_of, headline_at_bound_of}
@@ -20,23 +22,175 @@ use Rattle.plan_proof.proofs.machine.Bounds.{loses_nothing}
 use Rattle.plan_proof.specs.OneGraph.{HaveOneGraph}
 use Rattle.plan_proof.proofs.one.OneGraph.{one_graph}
 use Rattle.bound_calc.specs.NoBound.{NamesCycle, spaced}
-use Rattle.outside_io.specs.command_words.Names.{Word}
-use Rattle.outside_io.specs.command_words.Words.{TranslationRequest, BoundRequest, ValidationRequest, Request, to_translate, to_bound, to_validate, number_of, Asks}
-use Rattle.outside_io.proofs.command_words.Requests.{one_request}
-use Rattle.htn_cli.specs.Texts.{Texts}
-use Rattle.htn_cli.specs.Inputs.{IsToldToRead, IsToldToHold, AreToldToRead, HaveProblem}
-use Rattle.htn_cli.specs.Validation.{HaveTexts, AreConfirmed, RefuseTexts, validation_inputs}
-use Rattle.htn_cli.specs.Answer.{Answer, refuses, writes, tells, confirms, AreSlotsOf, AreWritten, IsAnswer}
-use Rattle.htn_cli.specs.Left.{BothStand, StandsUpTo, Leaves, inputs_of, slots_line, bound_line, valid_line}
-use Rattle.htn_cli.specs.Sent.{TakesWhole, Told}
+use Rattle.command_words.specs.Names.{Word}
+use Rattle.command_words.specs.Words.{TranslationRequest, BoundRequest, ValidationRequest, Request, to_translate, to_bound, to_validate, number_of, Asks}
+use Rattle.htn_cli.specs.Answer.{Text, Output, Answer, refuses, gives, told_alone}
+use Rattle.htn_cli.specs.Answers.{Refuses, Gives, RefusesSize, RefusesFault, IsAnswerFor, past_slots, too_large, faulty, declined, given, IsAnswer}
+use Rattle.htn_cli.specs.Bounding.{RefusesBound, GivesBound}
 use Rattle.htn_cli.specs.Ending.{Achieves, IsDone, IsRefused}
-use Rattle.htn_cli.specs.Promise.{KeepsPlans, TellsBound, TellsCycle, TellsPlan, TellsFailure, TellsFinding, HasHeadline, HasBound, HasPlan, HasFinding}
+use Rattle.htn_cli.specs.Inputs.{AreGot, AreWhole}
+use Rattle.htn_cli.specs.Left.{Stand, HoldTexts, Leaves}
+use Rattle.htn_cli.specs.Lines.{slots_line, bound_line, valid_line}
+use Rattle.htn_cli.specs.Problem.{SpellProblem}
 use Rattle.htn_cli.specs.Refusal.{status_of, line_of}
+use Rattle.htn_cli.specs.Requests.{inputs_of}
+use Rattle.htn_cli.specs.Sent.{TakesWhole, Told}
+use Rattle.htn_cli.specs.Slots.{RefusesSlots}
+use Rattle.htn_cli.specs.Texts.{Texts}
+use Rattle.htn_cli.specs.Told.{IsToldToRead, IsToldToHold, AreToldToRead}
+use Rattle.htn_cli.specs.Translation.{AreSlotsOf, AreWritten, RefusesTranslation, GivesTranslation, translation_output}
+use Rattle.htn_cli.specs.Validation.{AreConfirmed, RefusesPlan, GivesPlan}
+use Rattle.htn_cli.specs.promise.Headline.{KeepsPlans, HasHeadline}
+use Rattle.htn_cli.specs.promise.Bound.{TellsBound, HasBound}
+use Rattle.htn_cli.specs.promise.Plan.{TellsPlan, HasPlan}
+use Rattle.htn_cli.specs.promise.Finding.{TellsCycle, TellsFailure, TellsFinding, HasFinding}
 use Rattle.htn_cli.specs.declared.status.Status.TheVariants as status
+use Rattle.htn_cli.specs.declared.refusal.Failure.TheVariants as failure
+use Rattle.htn_cli.specs.declared.refusal.Finding.{Finding}
+use Rattle.htn_cli.specs.declared.refusal.Finding.TheVariants as finding
+use Rattle.htn_cli.specs.declared.refusal.Limit.TheVariants as limit
 use Rattle.htn_cli.specs.declared.refusal.Refusal.{Refusal}
 use Rattle.htn_cli.specs.declared.refusal.Refusal.TheVariants as refused
+use Rattle.htn_cli.proofs.Endings.{asked_left, asked_done}
 use Rattle.htn_cli.proofs.Validations.{sound_apart}
 use Rattle.htn_cli.proofs.SameCycles.{named_back, words_same}
+
+-- The problem of two texts.
+module _ (d p : List ℕ) (checks : Checks) (c : Compiled) (source : SpellProblem d p checks c) where
+  graph : (h : Hddl) (k : Compiled) → IsHddlOf d p h → IsCompiled h checks k → HaveOneGraph k c
+  graph h k s is = one_graph d p source.value h checks c k source.read.spelled s source.read.sound.value source.compiled_is is
+
+  -- each problem that they spell has the same bound
+  bound_of_each : (n : ℕ) → IsBound c n → (h : Hddl) (k : Compiled) → IsHddlOf d p h → IsCompiled h checks k → IsBound k n
+  bound_of_each n bound h k s is = ((graph h k s is).bound n).1 bound
+
+  -- and the same named cycle
+  cycle_of_each : (words : List ℕ) → NamesCycle c words → (err err' : SinkState) → Told (line_of (refused.Finding (finding.NotTailRecursive words))) err err' → TellsCycle checks d p err err'
+  cycle_of_each words (edges, named, is) err err' told h k s compiled =
+      let line = is ∙ ap spaced (sym (words_same k c (graph h k s compiled) edges)) in
+      (edges, named_back k c (graph h k s compiled) edges named, subst (λ z. Told (codes "not tail-recursive:" ++ z ++ codes "\n") err err') line told)
+
+-- The texts of a translation, and its number of slots.
+module _ (request : TranslationRequest) (d p : List ℕ) (out out' : SinkState) (texts : Texts) (slots : ℕ) (written : AreWritten request d p texts slots) where
+  abbrev c : Compiled
+  c = written.compiled
+
+  abbrev source : SpellProblem d p request.checks written.compiled
+  source = written.source.problem_is
+
+  module _ (od op : List ℕ) (domain_is : texts.domain ≡ od) (problem_is : texts.problem ≡ op) where
+    printed_domain_is : domain_text written.translated.value ≡ od
+    printed_domain_is = sym written.translated.domain_is ∙ domain_is
+
+    printed_problem_is : problem_text written.translated.value ≡ op
+    printed_problem_is = sym written.translated.problem_is ∙ problem_is
+
+    headline_here : Headline d p request.checks slots od op
+    headline_here =
+        subst (λ (z : Type 0). z) (λ i. Headline d p request.checks slots (printed_domain_is i) (printed_problem_is i))
+        (headline_of d p source.value request.checks c slots request.style written.translated.value source.read.spelled written.translated.printed source.read.ordered)
+
+    at_bound_here : HeadlineAtBound d p request.checks slots od op
+    at_bound_here =
+        subst (λ (z : Type 0). z) (λ i. HeadlineAtBound d p request.checks slots (printed_domain_is i) (printed_problem_is i))
+        (headline_at_bound_of d p source.value request.checks c slots request.style written.translated.value source.read.spelled written.translated.printed source.read.ordered)
+
+    slots_given_here : (o : Option Word) → AreSlotsOf c o slots → IfSome o (λ numeral. slots ≡ number_of numeral)
+    slots_given_here None are = tt
+    slots_given_here (Some numeral) are = are
+
+    slots_computed : (o : Option Word) → o ≡ None → AreSlotsOf c o slots → IsBound c slots
+    slots_computed None e are = are
+    slots_computed (Some numeral) e are = absurd (cc)
+
+    pub keeps : TakesWhole (slots_line slots) out out' → KeepsPlans request d p od op out out'
+    keeps told = record {
+      slots = slots;
+      told = told;
+      given = slots_given_here request.numeral written.source.slots_are;
+      headline = headline_here;
+      at_bound = at_bound_here;
+      open_leaves = λ h k s is tree order q scheduled. (pending_open (network k) tree order q scheduled, open_pending (network k) tree order q scheduled);
+      nothing_lost = λ none h k s is. loses_nothing h request.checks k is slots (bound_of_each d p request.checks c source slots (slots_computed request.numeral none written.source.slots_are) h k s is) slots od op (omega arith) (headline_here h k s is);
+    }
+
+-- A bound that was told.
+module _ (request : BoundRequest) (d p : List ℕ) (out out' : SinkState) (n : ℕ) (c : Compiled) (source : SpellProblem d p request.checks c) (bound : IsBound c n) where
+  each : (h : Hddl) (k : Compiled) → IsHddlOf d p h → IsCompiled h request.checks k → IsBound k n
+  each = bound_of_each d p request.checks c source n bound
+
+  pub bound_here : TakesWhole (bound_line n) out out' → TellsBound request d p out out'
+  bound_here told = record {
+    bound = n;
+    told = told;
+    is = each;
+    every_front = λ h k s is tree order front. every_front_is_within h request.checks k is n (each h k s is) tree order front;
+    nothing_lost = λ h k s is slots l style value printed. (
+        let printed_here = printed_too d p h source.value request.checks k c slots style value s source.read.spelled printed source.compiled_is in
+        loses_nothing h request.checks k is n (each h k s is) slots (domain_text value) (problem_text value) l
+        (headline_of d p source.value request.checks c slots style value source.read.spelled printed_here source.read.ordered h k s is)
+        );
+  }
+
+-- A list that was called a plan, or none.
+module _ (pd pp plan : List ℕ) where
+  pub plan_here : (out out' : SinkState) → AreConfirmed pd pp plan → TakesWhole valid_line out out' → TellsPlan pd pp plan out out'
+  plan_here out out' (c, steps, spell, is) told =
+      record { told = told; steps = steps; spelled = spell.spelled.list.spelled; is_plan = (c, spell.spelled.value.spelled.spelled, is) }
+
+  pub failure_here : (step : ℕ) (why : FailWhy) (err err' : SinkState) → Told (line_of (refused.Finding (finding.NotAPlan step why))) err err'
+      → RefusesPlan pd pp plan (refused.Finding (finding.NotAPlan step why)) → TellsFailure pd pp plan err err'
+  failure_here step why err err' line (c, steps, spell, fails) = record {
+    steps = steps;
+    step = step;
+    why = why;
+    value = c;
+    told = line;
+    spelled = spell.spelled.list.spelled;
+    value_is = spell.spelled.value.spelled.spelled;
+    fails = fails;
+    no_plan = λ other. (
+        let plan_too = (spelled-plans other.0 c pd pp other.1 spell.spelled.value.spelled.spelled steps).0 other.2 in
+        (each_is_plan_or_fails c (sound_apart c spell.spelled.value.sound) steps).not_both step why plan_too fails
+        );
+  }
+
+-- What was found of the texts of a request.
+pub finding_here : (request : Request) (texts : List (List ℕ)) (f : Finding) → Refuses request texts (refused.Finding f) → (err err' : SinkState) → Told (line_of (refused.Finding f)) err err' → TellsFinding request texts err err'
+finding_here (to_translate r) (d ∷ p ∷ []) (finding.NotTailRecursive words) (none, (c, source, named)) err err' line = cycle_of_each d p r.checks c source words named err err' line
+finding_here (to_bound r) (d ∷ p ∷ []) (finding.NotTailRecursive words) (c, source, named) err err' line = cycle_of_each d p r.checks c source words named err err' line
+finding_here (to_validate r) (pd ∷ pp ∷ plan ∷ []) (finding.NotAPlan step why) x err err' line = failure_here pd pp plan step why err err' line x
+finding_here _ _ f x err err' line = absurd x
+
+-- An output comes from all texts, which are given; and a finding from all texts, which are declined.
+abbrev Come : Request → List (List ℕ) → Answer → Type 0
+Come request texts (gives output) = AreWhole (inputs_of request) texts × Gives request texts output
+Come request texts (refuses (refused.Finding f)) = AreWhole (inputs_of request) texts × Refuses request texts (refused.Finding f)
+Come request texts (refuses _) = Unit {0}
+
+module _ (request : Request) (texts : List (List ℕ)) where
+  come_past : (n : ℕ) (refusal : Refusal) → RefusesSlots n refusal → Come request texts (refuses refusal)
+  come_past n (refused.Finding f) x = absurd x
+  come_past n _ x = tt
+
+  come_size : (refusal : Refusal) → RefusesSize request texts refusal → Come request texts (refuses refusal)
+  come_size (refused.Finding f) x = absurd x
+  come_size _ x = tt
+
+  come_fault : (refusal : Refusal) → RefusesFault request texts refusal → Come request texts (refuses refusal)
+  come_fault (refused.Finding f) x = absurd x
+  come_fault _ x = tt
+
+  come_declined : (refusal : Refusal) → AreWhole (inputs_of request) texts → Refuses request texts refusal → Come request texts (refuses refusal)
+  come_declined (refused.Finding f) whole x = (whole, x)
+  come_declined _ whole x = tt
+
+  pub come : (a : Answer) → IsAnswerFor request texts a → Come request texts a
+  come a (past_slots n refusal none e x) = come_past n refusal x
+  come a (too_large refusal inside x) = come_size refusal x
+  come a (faulty refusal inside whole x) = come_fault refusal x
+  come a (declined refusal inside whole x) = come_declined refusal whole x
+  come a (given output inside whole x fits) = (whole, x)
 
 -- what is told of a name is what it reads as, and what it holds
 read_there : (held : Option Folder) (lenient : Bool) (name bytes told : List ℕ) → IfSome held (λ folder. file_of lenient folder name ≡ Some bytes)
@@ -48,214 +202,72 @@ held_there : (held : Option Folder) (now : Option (Option Word)) (text told : Wo
 held_there None now text told holds is = absurd (cc)
 held_there (Some folder) now text told holds is = cc
 
--- The problem of both inputs, where they are told.
-module _ (files : FilesState) (domain problem : Word) (checks : Checks) (c : Compiled) (source : HaveProblem files domain problem checks c) (d p : List ℕ) (domain_read : IsToldToRead files domain d) (problem_read : IsToldToRead files problem p) where
-  domain_is : source.domain_text ≡ d
-  domain_is = read_there files.held files.lenient domain source.domain_text d source.domain_is.read domain_read
-
-  problem_is : source.problem_text ≡ p
-  problem_is = read_there files.held files.lenient problem source.problem_text p source.problem_is.read problem_read
-
-  pub spelled : IsHddlOf d p source.value
-  spelled = subst (λ (z : Type 0). z) (λ i. IsHddlOf (domain_is i) (problem_is i) source.value) source.read.spelled
-
-  graph : (h : Hddl) (c' : Compiled) → IsHddlOf d p h → IsCompiled h checks c' → HaveOneGraph c' c
-  graph h c' s k = one_graph d p source.value h checks c c' spelled s source.read.sound.value source.compiled_is k
-
-  -- each problem that they spell has the same bound
-  pub bound_of_each : (n : ℕ) → IsBound c n → (h : Hddl) (c' : Compiled) → IsHddlOf d p h → IsCompiled h checks c' → IsBound c' n
-  bound_of_each n bound h c' s k = ((graph h c' s k).bound n).1 bound
-
-  -- and the same named cycle
-  pub cycle_of_each : (words : List ℕ) → NamesCycle c words → (err err' : SinkState) → Told (line_of (refused.NotTailRecursive words)) err err' → TellsCycle checks d p err err'
-  cycle_of_each words (edges, named, is) err err' told h c' s k =
-      let line = is ∙ ap spaced (sym (words_same c' c (graph h c' s k) edges)) in
-      (edges, named_back c' c (graph h c' s k) edges named, subst (λ z. Told (codes "not tail-recursive:" ++ z ++ codes "\n") err err') line told)
-
--- A translation that was done.
-module _ (request : TranslationRequest) (files files' : FilesState) (out out' : SinkState) (d p od op : List ℕ) (domain_read : IsToldToRead files request.names.domain d) (problem_read : IsToldToRead files request.names.problem p)
-    (domain_held : IsToldToHold files' request.names.printed_domain od) (problem_held : IsToldToHold files' request.names.printed_problem op) where
-  module _ (texts : Texts) (slots : ℕ) (written : AreWritten request files texts slots) (stand : BothStand request.names texts files files') where
-    abbrev c : Compiled
-    c = written.compiled
-
-    abbrev source : HaveProblem files request.names.domain request.names.problem request.checks written.compiled
-    source = written.source.problem
-
-    spelled_here : IsHddlOf d p source.value
-    spelled_here = spelled files request.names.domain request.names.problem request.checks c source d p domain_read problem_read
-
-    printed_domain_is : domain_text written.translated.value ≡ od
-    printed_domain_is = sym written.translated.domain_is ∙ held_there files.held _ texts.domain od stand.domain domain_held
-
-    printed_problem_is : problem_text written.translated.value ≡ op
-    printed_problem_is = sym written.translated.problem_is ∙ held_there files.held _ texts.problem op stand.problem problem_held
-
-    headline_here : Headline d p request.checks slots od op
-    headline_here =
-        subst (λ (z : Type 0). z) (λ i. Headline d p request.checks slots (printed_domain_is i) (printed_problem_is i))
-        (headline_of d p source.value request.checks c slots request.style written.translated.value spelled_here written.translated.printed source.read.ordered)
-
-    at_bound_here : HeadlineAtBound d p request.checks slots od op
-    at_bound_here =
-        subst (λ (z : Type 0). z) (λ i. HeadlineAtBound d p request.checks slots (printed_domain_is i) (printed_problem_is i))
-        (headline_at_bound_of d p source.value request.checks c slots request.style written.translated.value spelled_here written.translated.printed source.read.ordered)
-
-    slots_given : (o : Option Word) → AreSlotsOf request files c o slots → IfSome o (λ numeral. slots ≡ number_of numeral)
-    slots_given None are = tt
-    slots_given (Some numeral) are = are
-
-    slots_computed : (o : Option Word) → o ≡ None → AreSlotsOf request files c o slots → IsBound c slots
-    slots_computed None e are = are
-    slots_computed (Some numeral) e are = absurd (cc)
-
-    keeps : TakesWhole (slots_line slots) out out' → KeepsPlans request d p od op out out'
-    keeps told = record {
-      slots = slots;
-      told = told;
-      given = slots_given request.numeral written.source.slots_are;
-      headline = headline_here;
-      at_bound = at_bound_here;
-      nothing_lost = λ none h k s is. loses_nothing h request.checks k is slots (bound_of_each files request.names.domain request.names.problem request.checks c source d p domain_read problem_read slots (slots_computed request.numeral none written.source.slots_are) h k s is) slots od op (omega arith) (headline_here h k s is);
-    }
-
-  keeps_by : (answer : Answer) → IsAnswer (to_translate request) files answer → StandsUpTo TakesWhole answer files files' out out' → KeepsPlans request d p od op out out'
-  keeps_by (refuses refusal) is given = absurd given
-  keeps_by (writes names texts slots) is given = keeps texts slots is.1 (subst (λ z. BothStand z texts files files') is.0 given.0) given.1
-  keeps_by (tells n) is given = absurd is
-  keeps_by confirms is given = absurd is
-
--- A bound that was told.
-module _ (request : BoundRequest) (files files' : FilesState) (out out' : SinkState) (d p : List ℕ) (domain_read : IsToldToRead files request.domain d) (problem_read : IsToldToRead files request.problem p) where
-  module _ (n : ℕ) (c : Compiled) (source : HaveProblem files request.domain request.problem request.checks c) (bound : IsBound c n) where
-    each : (h : Hddl) (k : Compiled) → IsHddlOf d p h → IsCompiled h request.checks k → IsBound k n
-    each = bound_of_each files request.domain request.problem request.checks c source d p domain_read problem_read n bound
-
-    bound_here : TakesWhole (bound_line n) out out' → TellsBound request d p out out'
-    bound_here told = record {
-      bound = n;
-      told = told;
-      is = each;
-      nothing_lost = λ h k s is slots l style value printed. (
-          let here = spelled files request.domain request.problem request.checks c source d p domain_read problem_read in
-          let printed_here = printed_too d p h source.value request.checks k c slots style value s here printed source.compiled_is in
-          loses_nothing h request.checks k is n (each h k s is) slots (domain_text value) (problem_text value) l
-          (headline_of d p source.value request.checks c slots style value here printed_here source.read.ordered h k s is)
-          );
-    }
-
-  bound_by : (answer : Answer) → IsAnswer (to_bound request) files answer → StandsUpTo TakesWhole answer files files' out out' → TellsBound request d p out out'
-  bound_by (refuses refusal) is given = absurd given
-  bound_by (writes names texts slots) is given = absurd is
-  bound_by (tells n) ((c, source, bound), small) given = bound_here n c source bound given.1
-  bound_by confirms is given = absurd is
-
--- The texts of a validation, where they are told.
-module _ (request : ValidationRequest) (files : FilesState) (Are : (domain problem plan : List ℕ) → Type 0) (have : HaveTexts request files Are) (pd pp plan : List ℕ)
-    (read : AreToldToRead files (validation_inputs request) (pd ∷ pp ∷ plan ∷ [])) where
-  pub are_told : Are pd pp plan
-  are_told =
-      let d = read_there files.held files.lenient request.domain have.domain_text pd have.domain_is.read read.0 in
-      let p = read_there files.held files.lenient request.problem have.problem_text pp have.problem_is.read read.1.0 in
-      let l = read_there files.held files.lenient request.plan have.plan_text plan have.plan_is.read read.1.1.0 in
-      subst (λ (z : Type 0). z) (λ i. Are (d i) (p i) (l i)) have.are
-
--- A list that was called a plan.
-module _ (request : ValidationRequest) (files files' : FilesState) (out out' : SinkState) (pd pp plan : List ℕ) (read : AreToldToRead files (validation_inputs request) (pd ∷ pp ∷ plan ∷ [])) where
-  plan_here : AreConfirmed pd pp plan → TakesWhole valid_line out out' → TellsPlan pd pp plan out out'
-  plan_here (c, steps, spell, is) told =
-      record { told = told; steps = steps; spelled = spell.spelled.list.spelled; is_plan = (c, spell.spelled.value.spelled.spelled, is) }
-
-  plan_by : (answer : Answer) → IsAnswer (to_validate request) files answer → StandsUpTo TakesWhole answer files files' out out' → TellsPlan pd pp plan out out'
-  plan_by (refuses refusal) is given = absurd given
-  plan_by (writes names texts slots) is given = absurd is
-  plan_by (tells n) is given = absurd is
-  plan_by confirms is given = plan_here (are_told request files AreConfirmed is pd pp plan read) given.1
+-- the texts that were got are those that are told
+same_texts : (files : FilesState) (names : List Word) (texts others : List (List ℕ)) → AreGot files names texts → AreWhole names texts → AreToldToRead files names others → texts ≡ others
+same_texts files [] [] [] got whole told = refl
+same_texts files [] [] (other ∷ others) got whole told = absurd told
+same_texts files [] (text ∷ texts) others got whole told = absurd got
+same_texts files (name ∷ names) [] others got whole told = absurd whole
+same_texts files (name ∷ names) (text ∷ texts) [] got whole told = absurd told
+same_texts files (name ∷ names) (text ∷ texts) (other ∷ others) got whole told =
+    let e = read_there files.held files.lenient name text other got.0 told.0 in
+    let rest = same_texts files names texts others got.1 whole.1 told.1 in
+    λ i. e i ∷ rest i
 
 -- The words ask for one request alone.
 module _ (words : List Word) (files files' : FilesState) (out out' : SinkState) (done : IsDone words files files' out out') where
-  achieved_by : (request : Request) → Asks words request → Achieves files files' out out' request
-  achieved_by request asked = subst (Achieves files files' out out') (one_request words done.request request done.asked asked) done.achieved
+  module _ (request : Request) (asked : Asks words request) (texts : List (List ℕ)) (told : AreToldToRead files (inputs_of request) texts) where
+    abbrev achieved : Achieves files files' out out' request
+    achieved = asked_done words files files' out out' request asked done
+
+    gives_here : Gives request texts achieved.output
+    gives_here =
+        let x = come request achieved.is.texts (gives achieved.output) achieved.is.answers in
+        subst (λ z. Gives request z achieved.output) (same_texts files (inputs_of request) achieved.is.texts texts achieved.is.got x.0 told) x.1
 
   pub headline_done : HasHeadline words files files' out out'
-  headline_done request d p od op told =
-      let achieved = achieved_by (to_translate request) told.asked in
-      keeps_by request files files' out out' d p od op told.domain_read told.problem_read told.domain_held told.problem_held achieved.answer achieved.is achieved.given
+  headline_done r d p od op told =
+      go (achieved (to_translate r) told.asked (d ∷ p ∷ []) read) (gives_here (to_translate r) told.asked (d ∷ p ∷ []) read)
+    where
+      read : AreToldToRead files (inputs_of (to_translate r)) (d ∷ p ∷ [])
+      read = (told.domain_read, (told.problem_read, tt))
 
-  pub bound_done : HasBound words files files' out out'
-  bound_done request d p told =
-      let achieved = achieved_by (to_bound request) told.asked in
-      bound_by request files files' out out' d p told.read.0 told.read.1.0 achieved.answer achieved.is achieved.given
+      go : (a : Achieves files files' out out' (to_translate r)) → GivesTranslation r d p a.output → KeepsPlans r d p od op out out'
+      go a (texts, slots, written, e) =
+          let stand : Stand (translation_output r.names texts slots).texts files files' = subst (λ (z : Output). Stand z.texts files files') e a.stands.0 in
+          let line : TakesWhole (slots_line slots) out out' = subst (λ (z : Output). TakesWhole z.told out out') e a.stands.1 in
+          keeps r d p out out' texts slots written od op
+          (held_there files.held _ texts.domain od stand.held.0 told.domain_held)
+          (held_there files.held _ texts.problem op stand.held.1.0 told.problem_held) line
 
-  pub plan_done : HasPlan words files files' out out'
-  plan_done request pd pp plan told =
-      let achieved = achieved_by (to_validate request) told.asked in
-      plan_by request files files' out out' pd pp plan told.read achieved.answer achieved.is achieved.given
+  pub bound_done : HasBound words files out out'
+  bound_done r d p asked read = go (achieved (to_bound r) asked (d ∷ p ∷ []) read) (gives_here (to_bound r) asked (d ∷ p ∷ []) read)
+    where
+      go : (a : Achieves files files' out out' (to_bound r)) → GivesBound r d p a.output → TellsBound r d p out out'
+      go a (n, (c, source, bound), small, e) =
+          let line : TakesWhole (bound_line n) out out' = subst (λ (z : Output). TakesWhole z.told out out') e a.stands.1 in
+          bound_here r d p out out' n c source bound line
 
--- A refusal of the request that the words ask for.
-module _ (words : List Word) (files files' : FilesState) (out out' : SinkState) (refusal : Refusal) (err err' : SinkState) where
-  found : ((request : Request) (texts : List (List ℕ)) → AreToldToRead files (inputs_of request) texts → Leaves request files files' out out' refusal → TellsFinding request texts err err') → IsRefused words files files' out out' refusal
-      → HasFinding words files files' err err'
-  found by (inl w) request texts told = absurd (w.formless (request, told.asked))
-  found by (inr t) request texts told = by request texts told.read (subst (λ z. Leaves z files files' out out' refusal) (one_request words t.request request t.asked told.asked) t.left)
+  pub plan_done : HasPlan words files out out'
+  plan_done r pd pp plan asked read = go (achieved (to_validate r) asked (pd ∷ pp ∷ plan ∷ []) read) (gives_here (to_validate r) asked (pd ∷ pp ∷ plan ∷ []) read)
+    where
+      go : (a : Achieves files files' out out' (to_validate r)) → GivesPlan pd pp plan a.output → TellsPlan pd pp plan out out'
+      go a (are, e) =
+          let line : TakesWhole valid_line out out' = subst (λ (z : Output). TakesWhole z.told out out') e a.stands.1 in
+          plan_here pd pp plan out out' are line
 
-module _ (files files' : FilesState) (out out' err err' : SinkState) where
-  -- the problem is not tail-recursive
-  cycle_by : (cycle : List ℕ) → Told (line_of (refused.NotTailRecursive cycle)) err err' → (request : Request) (texts : List (List ℕ)) → AreToldToRead files (inputs_of request) texts
-      → Leaves request files files' out out' (refused.NotTailRecursive cycle) → TellsFinding request texts err err'
-  cycle_by cycle line (to_translate r) [] read left = absurd read
-  cycle_by cycle line (to_translate r) (d ∷ []) read left = absurd read.1
-  cycle_by cycle line (to_translate r) (d ∷ p ∷ []) read left = let (c, source, names) = left.0.1 in cycle_of_each files r.names.domain r.names.problem r.checks c source d p read.0 read.1.0 cycle names err err' line
-  cycle_by cycle line (to_translate r) (d ∷ p ∷ q ∷ texts) read left = absurd read.1.1
-  cycle_by cycle line (to_bound r) [] read left = absurd read
-  cycle_by cycle line (to_bound r) (d ∷ []) read left = absurd read.1
-  cycle_by cycle line (to_bound r) (d ∷ p ∷ []) read left = let (c, source, names) = left.0 in cycle_of_each files r.domain r.problem r.checks c source d p read.0 read.1.0 cycle names err err' line
-  cycle_by cycle line (to_bound r) (d ∷ p ∷ q ∷ texts) read left = absurd read.1.1
-  cycle_by cycle line (to_validate r) texts read left = absurd left.0.are
-
-  -- the list is no plan
-  failure_here : (step : ℕ) (why : FailWhy) → Told (line_of (refused.NotAPlan step why)) err err' → (pd pp plan : List ℕ) (names : List Word) → RefuseTexts pd pp plan names (refused.NotAPlan step why) → TellsFailure pd pp plan err err'
-  failure_here step why line pd pp plan names (c, steps, spell, fails) = record {
-    steps = steps;
-    step = step;
-    why = why;
-    value = c;
-    told = line;
-    spelled = spell.spelled.list.spelled;
-    value_is = spell.spelled.value.spelled.spelled;
-    fails = fails;
-    no_plan = λ other. (
-        let plan_too = (spelled-plans other.0 c pd pp other.1 spell.spelled.value.spelled.spelled steps).0 other.2 in
-        (each_is_plan_or_fails c (sound_apart c spell.spelled.value.sound) steps).not_both step (cause why) plan_too fails
-        );
-  }
-
-  failure_by : (step : ℕ) (why : FailWhy) → Told (line_of (refused.NotAPlan step why)) err err' → (request : Request) (texts : List (List ℕ)) → AreToldToRead files (inputs_of request) texts
-      → Leaves request files files' out out' (refused.NotAPlan step why) → TellsFinding request texts err err'
-  failure_by step why line (to_translate r) texts read left = absurd left.0
-  failure_by step why line (to_bound r) texts read left = absurd left.0
-  failure_by step why line (to_validate r) [] read left = absurd read
-  failure_by step why line (to_validate r) (pd ∷ []) read left = absurd read.1
-  failure_by step why line (to_validate r) (pd ∷ pp ∷ []) read left = absurd read.1.1
-  failure_by step why line (to_validate r) (pd ∷ pp ∷ plan ∷ []) read left =
-      let names = validation_inputs r in
-      failure_here step why line pd pp plan names (are_told r files (λ a b c. RefuseTexts a b c names (refused.NotAPlan step why)) left.0 pd pp plan read)
-  failure_by step why line (to_validate r) (pd ∷ pp ∷ plan ∷ q ∷ texts) read left = absurd read.1.1.1
-
--- and no other refusal has this status
+-- a finding that was told, and no other refusal has this status
 pub finding_refused : (words : List Word) (files files' : FilesState) (out out' : SinkState) (refusal : Refusal) → IsRefused words files files' out out' refusal → status_of refusal ≡ status.Finding → (err err' : SinkState) → Told (line_of refusal) err err'
-    → HasFinding words files files' err err'
-finding_refused words files files' out out' refused.Words left e err err' told = absurd (cc)
-finding_refused words files files' out out' refused.BoundLimit left e err err' told = absurd (cc)
-finding_refused words files files' out out' (refused.SlotsLimit n) left e err err' told = absurd (cc)
-finding_refused words files files' out out' (refused.BytesLimit word) left e err err' told = absurd (cc)
-finding_refused words files files' out out' (refused.TextFault place code) left e err err' told = absurd (cc)
-finding_refused words files files' out out' (refused.TextLimit counted place) left e err err' told = absurd (cc)
-finding_refused words files files' out out' (refused.StepsLimit steps) left e err err' told = absurd (cc)
-finding_refused words files files' out out' (refused.NotAPlan step why) left e err err' told = found words files files' out out' (refused.NotAPlan step why) err err' (failure_by files files' out out' err err' step why told) left
-finding_refused words files files' out out' (refused.NotTailRecursive cycle) left e err err' told = found words files files' out out' (refused.NotTailRecursive cycle) err err' (cycle_by files files' out out' err err' cycle told) left
-finding_refused words files files' out out' (refused.OutputLimit n) left e err err' told = absurd (cc)
-finding_refused words files files' out out' (refused.CannotRead word) left e err err' told = absurd (cc)
-finding_refused words files files' out out' (refused.CannotWrite word) left e err err' told = absurd (cc)
-finding_refused words files files' out out' refused.CannotWriteOutput left e err err' told = absurd (cc)
-finding_refused words files files' out out' refused.NoMemory left e err err' told = absurd (cc)
+    → HasFinding words files err err'
+finding_refused words files files' out out' (refused.Finding f) left e err err' line request texts asked told =
+    let left_here = asked_left words files files' out out' request (refused.Finding f) asked left in
+    let is = left_here.0 in
+    let x = come request is.texts (refuses (refused.Finding f)) is.answers in
+    finding_here request texts f (subst (λ z. Refuses request z (refused.Finding f)) (same_texts files (inputs_of request) is.texts texts is.got x.0 told) x.1) err err' line
+finding_refused words files files' out out' refused.Words left e err err' line request texts asked told = absurd (cc)
+finding_refused words files files' out out' (refused.Fault place code) left e err err' line request texts asked told = absurd (cc)
+finding_refused words files files' out out' (refused.Limit l) left e err err' line request texts asked told = absurd (cc)
+finding_refused words files files' out out' (refused.Failure (failure.Reading name)) left e err err' line request texts asked told = absurd (cc)
+finding_refused words files files' out out' (refused.Failure (failure.Writing name)) left e err err' line request texts asked told = absurd (cc)
+finding_refused words files files' out out' (refused.Failure failure.Telling) left e err err' line request texts asked told = absurd (cc)
+finding_refused words files files' out out' (refused.Failure failure.Memory) left e err err' line request texts asked told = absurd (cc)

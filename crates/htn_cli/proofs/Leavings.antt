@@ -1,7 +1,12 @@
--- What a run leaves, from what its steps leave.
-use Rattle.std.proofs.Common.{ℕ, ◌≡◌, ◌<◌, ◌≤◌, ◌^◌, Option, Some, None, IfSome, refl, sym, ◌∙◌, subst, inl, inr, arith}
+-- What a command gives, or leaves that is refused, from what its steps do.
+use Rattle.std.proofs.Common.{ℕ, ◌≡◌, ◌+◌, ◌<◌, ◌≤◌, ◌^◌, ◌⊎◌, List, [], ◌∷◌, ◌++◌, length, codes, decimal, Option, Some, None, IfSome, option_map, refl, sym, ap, ◌∙◌, subst, inl, inr, arith}
+use Rattle.std.proofs.lemmas.List.{length-append}
+use Rattle.std.proofs.lemmas.Fmt.{length-decimal-le_wide}
+use Rattle.htn_base.specs.Limits.{longest_output, most_slots}
 use Rattle.outside_io.specs.Files.{FilesState}
 use Rattle.outside_io.specs.Sink.{SinkState}
+use Rattle.hddl_reader.specs.declared.sections.Language.TheVariants as language
+use Rattle.text_values.specs.TextFaults.{IsLeastFault}
 use Rattle.plan_model.specs.declared.options.Checks.{Checks}
 use Rattle.plan_model.specs.declared.values.Compiled.{Compiled}
 use Rattle.plan_model.specs.task_networks.Bound.{itself}
@@ -9,17 +14,29 @@ use Rattle.plan_model.specs.plan_meaning.Network.{top_task}
 use Rattle.plan_model.specs.plan_meaning.Schemas.{task}
 use Rattle.plan_model.specs.plan_meaning.Bound.{IsBound}
 use Rattle.bound_calc.specs.Soundly.{IsSoundlyCompiled}
-use Rattle.outside_io.specs.command_words.Names.{Word}
-use Rattle.outside_io.specs.command_words.Bounds.{most_slots}
-use Rattle.outside_io.specs.command_words.Words.{TranslationRequest, BoundRequest, ValidationRequest, to_translate, to_bound, to_validate, number_of}
-use Rattle.htn_cli.specs.Texts.{Texts, texts_of}
-use Rattle.htn_cli.specs.Inputs.{HaveProblem}
-use Rattle.htn_cli.specs.Answer.{writes, tells, confirms, IsGivenWithin, AreAskedFor, AreSlotsOf, IsForSlots, IsAnswer}
-use Rattle.htn_cli.specs.Sent.{TakesWhole}
-use Rattle.htn_cli.specs.Left.{BothStand, IsWithin, Leaves, slots_line, bound_line, valid_line}
-use Rattle.htn_cli.specs.Stops.{GivesProblem, StopsProblem, GivesPlan, StopsPlan, StopsBound, StopsSlots, IsGiven, StopsGiven, IsChosen, StopsChosen, IsMade, StopsMade, StopsPrint, StopsDelivery}
+use Rattle.command_words.specs.Names.{Word}
+use Rattle.command_words.specs.Words.{TranslationRequest, BoundRequest, ValidationRequest, Request, to_translate, to_bound, to_validate, number_of}
+use Rattle.htn_cli.specs.Answer.{Output, Answer, refuses, gives, told_alone}
+use Rattle.htn_cli.specs.Answers.{IsLeastOf, Refuses, Gives, RefusesFault, IsAnswerFor, past_slots, too_large, faulty, declined, given, IsAnswer}
+use Rattle.htn_cli.specs.Bounding.{GivesBound}
 use Rattle.htn_cli.specs.Ending.{Achieves}
-use Rattle.htn_cli.specs.declared.translation.Made.{Made}
+use Rattle.htn_cli.specs.Inputs.{AreGot, AreShort, AreWhole}
+use Rattle.htn_cli.specs.Left.{Leaves, StandsUpTo}
+use Rattle.htn_cli.specs.Lines.{slots_line, bound_line, valid_line}
+use Rattle.htn_cli.specs.Made.{output_of, texts_by, AreMadeWith, IsMadeWith, IsMadeFor, StopsMadeFor, manner_of, GivesOutput, NamesDiffer}
+use Rattle.htn_cli.specs.Problem.{SpellProblem}
+use Rattle.htn_cli.specs.Requests.{inputs_of, slots_given, IsWithin}
+use Rattle.htn_cli.specs.Sent.{TakesWhole}
+use Rattle.htn_cli.specs.Slots.{RefusesSlots}
+use Rattle.htn_cli.specs.Stops.{GivesTexts, StopsReading, StopsFault, StopsTexts, StopsPlan, StopsBound, IsGiven, StopsGiven, IsChosen, StopsChosen, StopsPrinted, IsWant, StopsDelivery, StopsOutput}
+use Rattle.htn_cli.specs.Texts.{texts_of}
+use Rattle.htn_cli.specs.Translation.{AreSlotsOf, IsForSlots, GivesTranslation, translation_output}
+use Rattle.htn_cli.specs.Validation.{AreConfirmed}
+use Rattle.htn_cli.specs.declared.output.Output.{Output as Made}
+use Rattle.htn_cli.specs.declared.output.Written.{Written}
+use Rattle.htn_cli.specs.declared.refusal.Failure.TheVariants as failure
+use Rattle.htn_cli.specs.declared.refusal.Finding.TheVariants as finding
+use Rattle.htn_cli.specs.declared.refusal.Limit.TheVariants as limit
 use Rattle.htn_cli.specs.declared.refusal.Refusal.{Refusal}
 use Rattle.htn_cli.specs.declared.refusal.Refusal.TheVariants as refused
 use Rattle.htn_cli.proofs.Printed.{translated}
@@ -29,245 +46,234 @@ pub positive : (c : Compiled) (n : ℕ) → IsBound c n → 1 ≤ n
 positive c n b = subst (λ z. 1 ≤ z) b.is (b.numbers.positive (task (top_task c)) itself)
 
 -- what was read is ready for its bound
-pub soundly : (files : FilesState) (domain problem : Word) (checks : Checks) (c : Compiled) → HaveProblem files domain problem checks c → IsSoundlyCompiled c
-soundly files domain problem checks c p = record { problem = p.value; checks = checks; sound = p.read.sound; ordered = p.read.ordered; compiled = p.compiled_is }
+pub soundly : (d p : List ℕ) (checks : Checks) (c : Compiled) → SpellProblem d p checks c → IsSoundlyCompiled c
+soundly d p checks c s = record { problem = s.value; checks = checks; sound = s.read.sound; ordered = s.read.ordered; compiled = s.compiled_is }
 
--- The problem was not read.
-module _ (old new : FilesState) (out : SinkState) where
-  pub leaves_unread : (r : TranslationRequest) → IsWithin (to_translate r) old → (refusal : Refusal) → StopsProblem r.names.domain r.names.problem old new refusal → Leaves (to_translate r) old new out out refusal
-  leaves_unread r within refused.Words stops = absurd stops
-  leaves_unread r within refused.BoundLimit stops = absurd stops
-  leaves_unread r within (refused.SlotsLimit n) stops = absurd stops
-  leaves_unread r within (refused.BytesLimit word) stops = ((within, stops.0), stops.1, refl)
-  leaves_unread r within (refused.TextFault place code) stops = ((within, stops.0, stops.1), stops.2, refl)
-  leaves_unread r within (refused.TextLimit counted place) stops = ((within, stops.0), stops.1, refl)
-  leaves_unread r within (refused.StepsLimit steps) stops = absurd stops
-  leaves_unread r within (refused.NotTailRecursive words) stops = absurd stops
-  leaves_unread r within (refused.NotAPlan step why) stops = absurd stops
-  leaves_unread r within (refused.OutputLimit n) stops = absurd stops
-  leaves_unread r within (refused.CannotRead word) stops = (within, stops, refl)
-  leaves_unread r within (refused.CannotWrite word) stops = absurd stops
-  leaves_unread r within refused.CannotWriteOutput stops = absurd stops
-  leaves_unread r within refused.NoMemory stops = (within, inl (stops, refl))
+-- Lines are short.
+few_digits : (n : ℕ) → n < 2 ^ 128 → length (decimal n) ≤ 39
+few_digits n l = length-decimal-le_wide 39 n (omega arith) (omega (arith, l)) (omega (arith, l))
 
-  pub leaves_unread_bound : (r : BoundRequest) (refusal : Refusal) → StopsProblem r.domain r.problem old new refusal → Leaves (to_bound r) old new out out refusal
-  leaves_unread_bound r refused.Words stops = absurd stops
-  leaves_unread_bound r refused.BoundLimit stops = absurd stops
-  leaves_unread_bound r (refused.SlotsLimit n) stops = absurd stops
-  leaves_unread_bound r (refused.BytesLimit word) stops = (stops.0, stops.1, refl)
-  leaves_unread_bound r (refused.TextFault place code) stops = ((stops.0, stops.1), stops.2, refl)
-  leaves_unread_bound r (refused.TextLimit counted place) stops = (stops.0, stops.1, refl)
-  leaves_unread_bound r (refused.StepsLimit steps) stops = absurd stops
-  leaves_unread_bound r (refused.NotTailRecursive words) stops = absurd stops
-  leaves_unread_bound r (refused.NotAPlan step why) stops = absurd stops
-  leaves_unread_bound r (refused.OutputLimit n) stops = absurd stops
-  leaves_unread_bound r (refused.CannotRead word) stops = (tt, stops, refl)
-  leaves_unread_bound r (refused.CannotWrite word) stops = absurd stops
-  leaves_unread_bound r refused.CannotWriteOutput stops = absurd stops
-  leaves_unread_bound r refused.NoMemory stops = (tt, inl (stops, refl))
+pub slots_line_fits : (n : ℕ) → n ≤ most_slots → length (slots_line n) ≤ longest_output
+slots_line_fits n few =
+    let d = few_digits n (omega (arith, few)) in
+    let a = length-append (codes "slots " ++ decimal n) (codes "\n") in
+    let b = length-append (codes "slots ") (decimal n) in
+    omega (arith, d, a, b)
 
-  -- nor a plan
-  pub leaves_unconfirmed : (r : ValidationRequest) (refusal : Refusal) → StopsPlan r old new refusal → Leaves (to_validate r) old new out out refusal
-  leaves_unconfirmed r refused.Words stops = (stops.0, stops.1, refl)
-  leaves_unconfirmed r refused.BoundLimit stops = (stops.0, stops.1, refl)
-  leaves_unconfirmed r (refused.SlotsLimit n) stops = (stops.0, stops.1, refl)
-  leaves_unconfirmed r (refused.BytesLimit word) stops = (stops.0, stops.1, refl)
-  leaves_unconfirmed r (refused.TextFault place code) stops = (stops.0, stops.1, refl)
-  leaves_unconfirmed r (refused.TextLimit counted place) stops = (stops.0, stops.1, refl)
-  leaves_unconfirmed r (refused.StepsLimit steps) stops = (stops.0, stops.1, refl)
-  leaves_unconfirmed r (refused.NotTailRecursive words) stops = (stops.0, stops.1, refl)
-  leaves_unconfirmed r (refused.NotAPlan step why) stops = (stops.0, stops.1, refl)
-  leaves_unconfirmed r (refused.OutputLimit n) stops = (stops.0, stops.1, refl)
-  leaves_unconfirmed r (refused.CannotRead word) stops = (tt, stops, refl)
-  leaves_unconfirmed r (refused.CannotWrite word) stops = absurd stops.0.are
-  leaves_unconfirmed r refused.CannotWriteOutput stops = absurd stops.0.are
-  leaves_unconfirmed r refused.NoMemory stops = (tt, inl (stops, refl))
+pub bound_line_fits : (n : ℕ) → n < 2 ^ 128 → length (bound_line n) ≤ longest_output
+bound_line_fits n few =
+    let d = few_digits n few in
+    let a = length-append (decimal n) (codes "\n") in
+    omega (arith, d, a)
+
+-- The answer to a request whose texts were all got.
+module _ (request : Request) (old : FilesState) (texts : List (List ℕ)) (got : AreGot old (inputs_of request) texts) (within : IsWithin request) (whole : AreWhole (inputs_of request) texts) where
+  pub answer_given : (output : Output) → Gives request texts output → length output.told ≤ longest_output → IsAnswer request old (gives output)
+  answer_given output g fits = record { texts = texts; got = got; answers = given output within whole g fits }
+
+  answer_refused : (refusal : Refusal) → RefusesFault request texts refusal ⊎ Refuses request texts refusal → IsAnswer request old (refuses refusal)
+  answer_refused refusal (inl f) = record { texts = texts; got = got; answers = faulty refusal within whole f }
+  answer_refused refusal (inr r) = record { texts = texts; got = got; answers = declined refusal within whole r }
+
+  pub stopped : (new : FilesState) → new ≡ old → (refusal : Refusal) → StopsTexts request texts refusal → StopsOutput request old new refusal
+  stopped new same refused.Words stops = (answer_refused refused.Words stops, same)
+  stopped new same (refused.Fault place code) stops = (answer_refused (refused.Fault place code) stops, same)
+  stopped new same (refused.Limit l) stops = (answer_refused (refused.Limit l) stops, same)
+  stopped new same (refused.Finding f) stops = (answer_refused (refused.Finding f) stops, same)
+  stopped new same (refused.Failure failure.Memory) stops = (within, same)
+  stopped new same (refused.Failure _) stops = absurd stops
+
+-- The same of what the program made.
+module _ (request : Request) (old new : FilesState) (texts : List (List ℕ)) (read : GivesTexts (inputs_of request) old new texts) (within : IsWithin request) (whole : AreWhole (inputs_of request) texts) where
+  pub gives_made : (made : Made) → Gives request texts (output_of made) → length made.told ≤ longest_output → NamesDiffer made → GivesOutput request old new made
+  gives_made made g fits differ = record { same = read.same; answer = answer_given request old texts read.got within whole (output_of made) g fits; differ = differ }
+
+  pub stops_made : (refusal : Refusal) → StopsTexts request texts refusal → StopsOutput request old new refusal
+  stops_made refusal stops = stopped request old texts read.got within whole new read.same refusal stops
+
+-- its inputs were not all read
+pub unread : (request : Request) (old new : FilesState) → IsWithin request → (refusal : Refusal) → StopsReading (inputs_of request) old new refusal → StopsOutput request old new refusal
+unread request old new within (refused.Failure (failure.Reading word)) stops = (within, stops)
+unread request old new within (refused.Failure failure.Memory) stops = (within, stops)
+unread request old new within (refused.Limit (limit.Bytes word)) ((texts, got, large), same) =
+    (record { texts = texts; got = got; answers = too_large (refused.Limit (limit.Bytes word)) within large }, same)
+unread request old new within _ stops = absurd stops
+
+-- its texts have a fault
+pub fault_stops : (request : Request) (texts : List (List ℕ)) (refusal : Refusal) → StopsFault (inputs_of request) (IsLeastOf request texts) refusal → StopsTexts request texts refusal
+fault_stops request texts (refused.Fault place code) stops = inl stops
+fault_stops request texts (refused.Limit (limit.Text counted place)) stops = inl stops
+fault_stops request texts (refused.Failure failure.Memory) stops = tt
+fault_stops request texts _ stops = absurd stops
+
+-- memory ran out
+pub want_stops : (request : Request) (texts : List (List ℕ)) (refusal : Refusal) → IsWant refusal → StopsTexts request texts refusal
+want_stops request texts (refused.Failure failure.Memory) want = tt
+want_stops request texts _ want = absurd want
+
+-- What a run leaves that was refused before the first put, or in the delivery of its output.
+module _ (request : Request) (old : FilesState) (out : SinkState) where
+  pub leaves_unwritten : (new : FilesState) (refusal : Refusal) → StopsOutput request old new refusal → Leaves request old new out out refusal
+  leaves_unwritten new refused.Words stops = (stops.0, stops.1, refl)
+  leaves_unwritten new (refused.Fault place code) stops = (stops.0, stops.1, refl)
+  leaves_unwritten new (refused.Limit l) stops = (stops.0, stops.1, refl)
+  leaves_unwritten new (refused.Finding f) stops = (stops.0, stops.1, refl)
+  leaves_unwritten new (refused.Failure (failure.Reading word)) stops = (stops.0, stops.1, refl)
+  leaves_unwritten new (refused.Failure failure.Memory) stops = (stops.0, inl (stops.1, refl))
+  leaves_unwritten new (refused.Failure _) stops = absurd stops
+
+  module _ (mid : FilesState) (made : Made) (g : GivesOutput request old mid made) (within : IsWithin request) (new : FilesState) (out' : SinkState) where
+    pub achieves : StandsUpTo TakesWhole (output_of made) mid new out out' → Achieves old new out out' request
+    achieves stands = record { output = output_of made; is = g.answer; stands = subst (λ z. StandsUpTo TakesWhole (output_of made) z new out out') g.same stands }
+
+    delivered : (refusal : Refusal) → StopsDelivery (output_of made) old new out out' refusal → Leaves request old new out out' refusal
+    delivered (refused.Failure (failure.Writing word)) stops = (output_of made, g.answer, stops.0, stops.1)
+    delivered (refused.Failure failure.Telling) stops = (output_of made, g.answer, stops)
+    delivered (refused.Failure failure.Memory) (inl stops) = (within, inr (inl (output_of made, g.answer, stops.0, stops.1)))
+    delivered (refused.Failure failure.Memory) (inr stops) = (within, inr (inr (output_of made, g.answer, stops)))
+    delivered _ stops = absurd stops
+
+    pub leaves_delivery : (refusal : Refusal) → StopsDelivery (output_of made) mid new out out' refusal → Leaves request old new out out' refusal
+    leaves_delivery refusal stops = delivered refusal (subst (λ z. StopsDelivery (output_of made) z new out out' refusal) g.same stops)
+
+abbrev WithinOf : Request → Answer → Type 0
+WithinOf request (refuses refusal) = Unit {0}
+WithinOf request (gives output) = IsWithin request
+
+-- an answer that is an output is to a number of slots that is printed
+pub output_within : (request : Request) (old : FilesState) (output : Output) → IsAnswer request old (gives output) → IsWithin request
+output_within request old output is = go (gives output) is.answers
+  where
+    go : (answer : Answer) → IsAnswerFor request is.texts answer → WithinOf request answer
+    go answer (past_slots n refusal none e slots) = tt
+    go answer (too_large refusal within large) = tt
+    go answer (faulty refusal within whole x) = tt
+    go answer (declined refusal within whole x) = tt
+    go answer (given o within whole g fits) = within
 
 -- A translation.
-module _ (r : TranslationRequest) (old : FilesState) where
-  given_within : (numeral : Option Word) (given : Option ℕ) → IsGiven numeral given → IfSome numeral (λ word. number_of word ≤ most_slots)
-  given_within None given is = tt
+module _ (r : TranslationRequest) where
+  given_within : (numeral : Option Word) (g : Option ℕ) → IsGiven numeral g → IfSome (option_map number_of numeral) (λ n. n ≤ most_slots)
+  given_within None g is = tt
   given_within (Some word) None is = absurd is
-  given_within (Some word) (Some slots) is = let e = is.same in let l = is.few in omega arith
+  given_within (Some word) (Some slots) is = let e = is.same in let l = is.few in omega (arith, e, l)
 
-  pub is_within : (given : Option ℕ) → IsGiven r.numeral given → IsWithin (to_translate r) old
-  is_within given is = given_within r.numeral given is
+  pub is_within : (g : Option ℕ) → IsGiven r.numeral g → IsWithin (to_translate r)
+  is_within g is = given_within r.numeral g is
 
-  module _ (out : SinkState) where
+  module _ (old : FilesState) where
     -- the given number of slots is too great
-    slots_here : (n : ℕ) → AreAskedFor r old r.numeral n → (new : FilesState) → new ≡ old → (refusal : Refusal) → StopsSlots n refusal → Leaves (to_translate r) old new out out refusal
-    slots_here n asked new same refused.Words stops = absurd stops
-    slots_here n asked new same refused.BoundLimit stops = ((n, asked, stops), same, refl)
-    slots_here n asked new same (refused.SlotsLimit m) stops = ((subst (AreAskedFor r old r.numeral) (sym stops.0) asked, subst (λ z. most_slots < z) (sym stops.0) stops.1, subst (λ z. z < 2 ^ 128) (sym stops.0) stops.2), same, refl)
-    slots_here n asked new same (refused.BytesLimit word) stops = absurd stops
-    slots_here n asked new same (refused.TextFault place code) stops = absurd stops
-    slots_here n asked new same (refused.TextLimit counted place) stops = absurd stops
-    slots_here n asked new same (refused.StepsLimit steps) stops = absurd stops
-    slots_here n asked new same (refused.NotAPlan step why) stops = absurd stops
-    slots_here n asked new same (refused.NotTailRecursive words) stops = absurd stops
-    slots_here n asked new same (refused.OutputLimit m) stops = absurd stops
-    slots_here n asked new same (refused.CannotRead word) stops = absurd stops
-    slots_here n asked new same (refused.CannotWrite word) stops = absurd stops
-    slots_here n asked new same refused.CannotWriteOutput stops = absurd stops
-    slots_here n asked new same refused.NoMemory stops = absurd stops
+    slots_past : (n : ℕ) → slots_given (to_translate r) ≡ Some n → (refusal : Refusal) → RefusesSlots n refusal → IsAnswer (to_translate r) old (refuses refusal)
+    slots_past n e refusal stops = record { texts = []; got = tt; answers = past_slots n refusal refl e stops }
 
-    pub leaves_given : (refusal : Refusal) → StopsGiven r.numeral refusal → Leaves (to_translate r) old old out out refusal
-    leaves_given refusal stops = go r.numeral refl stops
+    slots_stop : (n : ℕ) → slots_given (to_translate r) ≡ Some n → (refusal : Refusal) → RefusesSlots n refusal → StopsOutput (to_translate r) old old refusal
+    slots_stop n e (refused.Limit l) stops = (slots_past n e (refused.Limit l) stops, refl)
+    slots_stop n e refused.Words stops = absurd stops
+    slots_stop n e (refused.Fault place code) stops = absurd stops
+    slots_stop n e (refused.Finding f) stops = absurd stops
+    slots_stop n e (refused.Failure f) stops = absurd stops
+
+    pub given_stops : (refusal : Refusal) → StopsGiven r.numeral refusal → StopsOutput (to_translate r) old old refusal
+    given_stops refusal stops = go r.numeral refl stops
       where
-        go : (o : Option Word) → r.numeral ≡ o → StopsGiven o refusal → Leaves (to_translate r) old old out out refusal
+        go : (o : Option Word) → r.numeral ≡ o → StopsGiven o refusal → StopsOutput (to_translate r) old old refusal
         go None e stops = absurd stops
-        go (Some word) e stops = slots_here (number_of word) (subst (λ z. AreAskedFor r old z (number_of word)) (sym e) refl) old refl refusal stops
+        go (Some word) e stops = slots_stop (number_of word) (ap (option_map number_of) e) refusal stops
 
-    module _ (compiled : Compiled) (mid : FilesState) (gives : GivesProblem r.names.domain r.names.problem r.checks old mid compiled) where
-      for_slots : (given : Option ℕ) → IsGiven r.numeral given → (slots : ℕ) → IsChosen compiled given slots → IsForSlots r old compiled slots
-      for_slots given is slots chosen = go r.numeral given is chosen refl
+  module _ (d p : List ℕ) (c : Compiled) (spelled : SpellProblem d p r.checks c) (g : Option ℕ) (is : IsGiven r.numeral g) where
+    abbrev Stopped : Refusal → Type 0
+    Stopped = StopsTexts (to_translate r) (d ∷ p ∷ [])
+
+    bound_stops : r.numeral ≡ None → (refusal : Refusal) → StopsBound c refusal → Stopped refusal
+    bound_stops none (refused.Finding (finding.NotTailRecursive words)) stops = inr (none, (c, spelled, stops))
+    bound_stops none (refused.Limit limit.Bound) (n, bound, past) = inr (none, (n, (c, spelled, bound), past))
+    bound_stops none (refused.Failure failure.Memory) stops = tt
+    bound_stops none _ stops = absurd stops
+
+    computed_past : r.numeral ≡ None → (n : ℕ) → IsBound c n → (refusal : Refusal) → RefusesSlots n refusal → Stopped refusal
+    computed_past none n bound (refused.Limit limit.Bound) stops = inr (none, (n, (c, spelled, bound), stops))
+    computed_past none n bound (refused.Limit (limit.Slots m)) stops = inr (none, (n, (c, spelled, bound), stops))
+    computed_past none n bound _ stops = absurd stops
+
+    pub chosen_stops : (refusal : Refusal) → StopsChosen c g refusal → Stopped refusal
+    chosen_stops refusal stops = go r.numeral g is stops refl
+      where
+        go : (o : Option Word) (g : Option ℕ) → IsGiven o g → StopsChosen c g refusal → r.numeral ≡ o → Stopped refusal
+        go o (Some g) is stops e = absurd stops
+        go (Some word) None is stops e = absurd is
+        go None None is (inl stops) e = bound_stops e refusal stops
+        go None None is (inr (n, bound, stops)) e = computed_past e n bound refusal stops
+
+    module _ (slots : ℕ) (chosen : IsChosen c g slots) where
+      for_slots : IsForSlots r d p c slots
+      for_slots = go r.numeral g is chosen refl
         where
-          go : (o : Option Word) (g : Option ℕ) → IsGiven o g → IsChosen compiled g slots → r.numeral ≡ o → IsForSlots r old compiled slots
+          go : (o : Option Word) (g : Option ℕ) → IsGiven o g → IsChosen c g slots → r.numeral ≡ o → IsForSlots r d p c slots
           go None None is (n, bound, are) e =
-              record { problem = gives.problem_is; slots_are = subst (λ z. AreSlotsOf r old compiled z slots) (sym e) (subst (IsBound compiled) (sym are.same) bound); some = are.some; few = are.few }
+              record { problem_is = spelled; slots_are = subst (λ z. AreSlotsOf c z slots) (sym e) (subst (IsBound c) (sym are.same) bound); some = are.some; few = are.few }
           go None (Some g) is chosen e = absurd is
           go (Some word) None is chosen e = absurd is
           go (Some word) (Some g) is chosen e =
-              record { problem = gives.problem_is; slots_are = subst (λ z. AreSlotsOf r old compiled z slots) (sym e) (chosen ∙ is.same); some = subst (λ z. 1 ≤ z) (sym chosen) is.some; few = subst (λ z. z ≤ most_slots) (sym chosen) is.few }
+              record { problem_is = spelled; slots_are = subst (λ z. AreSlotsOf c z slots) (sym e) (chosen ∙ is.same); some = subst (λ z. 1 ≤ z) (sym chosen) is.some; few = subst (λ z. z ≤ most_slots) (sym chosen) is.few }
 
-      computed_within : r.numeral ≡ None → IsGivenWithin r old
-      computed_within none = subst (λ z. IfSome z (λ word. number_of word ≤ most_slots)) (sym none) tt
+      pub print_stops : (refusal : Refusal) → StopsPrinted c (manner_of r slots) refusal → Stopped refusal
+      print_stops (refused.Limit (limit.Output n)) stops = inr (c, slots, for_slots, stops)
+      print_stops (refused.Failure failure.Memory) stops = tt
+      print_stops _ stops = absurd stops
 
-      computed_here : r.numeral ≡ None → (refusal : Refusal) → StopsBound compiled refusal → Leaves (to_translate r) old mid out out refusal
-      computed_here none refused.Words stops = absurd stops
-      computed_here none refused.BoundLimit stops = ((stops.0, subst (λ z. AreAskedFor r old z stops.0) (sym none) (compiled, gives.problem_is, stops.1), stops.2), gives.same, refl)
-      computed_here none (refused.SlotsLimit n) stops = absurd stops
-      computed_here none (refused.BytesLimit word) stops = absurd stops
-      computed_here none (refused.TextFault place code) stops = absurd stops
-      computed_here none (refused.TextLimit counted place) stops = absurd stops
-      computed_here none (refused.StepsLimit steps) stops = absurd stops
-      computed_here none (refused.NotAPlan step why) stops = absurd stops
-      computed_here none (refused.NotTailRecursive words) stops = ((none, (compiled, gives.problem_is, stops)), gives.same, refl)
-      computed_here none (refused.OutputLimit n) stops = absurd stops
-      computed_here none (refused.CannotRead word) stops = absurd stops
-      computed_here none (refused.CannotWrite word) stops = absurd stops
-      computed_here none refused.CannotWriteOutput stops = absurd stops
-      computed_here none refused.NoMemory stops = (computed_within none, inl (gives.same, refl))
-
-      chosen_here : (given : Option ℕ) → IsGiven r.numeral given → (refusal : Refusal) → StopsChosen compiled given refusal → Leaves (to_translate r) old mid out out refusal
-      chosen_here given is refusal stops = go r.numeral given is stops refl
+      pub gives_translation : (made : Made) → IsMadeWith r c slots made → GivesTranslation r d p (output_of made)
+      gives_translation made (are, line) = go made.written are refl
         where
-          go : (o : Option Word) (g : Option ℕ) → IsGiven o g → StopsChosen compiled g refusal → r.numeral ≡ o → Leaves (to_translate r) old mid out out refusal
-          go o (Some g) is stops e = absurd stops
-          go (Some word) None is stops e = absurd is
-          go None None is (inl stops) e = computed_here e refusal stops
-          go None None is (inr (n, bound, stops)) e = slots_here n (subst (λ z. AreAskedFor r old z n) (sym e) (compiled, gives.problem_is, bound)) mid gives.same refusal stops
+          go : (o : Option Written) → AreMadeWith r c slots o → made.written ≡ o → GivesTranslation r d p (output_of made)
+          go None are e = absurd are
+          go (Some w) (od, op, whole) e = (
+            texts_of w.texts,
+            slots,
+            record {
+              compiled = c;
+              source = for_slots;
+              translated = translated for_slots.problem_is.value c (manner_of r slots) (texts_of w.texts) for_slots.problem_is.read.sound for_slots.problem_is.compiled_is for_slots.some whole;
+            },
+            (let a : texts_by made.written ≡ (translation_output r.names (texts_of w.texts) slots).texts =
+                ap texts_by e ∙ (λ i. record { name = od i; bytes = w.texts.domain } ∷ record { name = op i; bytes = w.texts.problem } ∷ []) in
+                λ i. record { texts = a i; told = line i }),
+          )
 
-      pub leaves_made : (given : Option ℕ) → IsGiven r.numeral given → (refusal : Refusal) → StopsMade compiled given r.style r.checks refusal → Leaves (to_translate r) old mid out out refusal
-      leaves_made given is refusal (inl stops) = chosen_here given is refusal stops
-      leaves_made given is refused.Words (inr (slots, chosen, stops)) = absurd stops
-      leaves_made given is refused.BoundLimit (inr (slots, chosen, stops)) = absurd stops
-      leaves_made given is (refused.SlotsLimit n) (inr (slots, chosen, stops)) = absurd stops
-      leaves_made given is (refused.BytesLimit word) (inr (slots, chosen, stops)) = absurd stops
-      leaves_made given is (refused.TextFault place code) (inr (slots, chosen, stops)) = absurd stops
-      leaves_made given is (refused.TextLimit counted place) (inr (slots, chosen, stops)) = absurd stops
-      leaves_made given is (refused.StepsLimit steps) (inr (slots, chosen, stops)) = absurd stops
-      leaves_made given is (refused.NotAPlan step why) (inr (slots, chosen, stops)) = absurd stops
-      leaves_made given is (refused.NotTailRecursive words) (inr (slots, chosen, stops)) = absurd stops
-      leaves_made given is (refused.OutputLimit n) (inr (slots, chosen, stops)) = ((compiled, slots, for_slots given is slots chosen, stops), gives.same, refl)
-      leaves_made given is (refused.CannotRead word) (inr (slots, chosen, stops)) = absurd stops
-      leaves_made given is (refused.CannotWrite word) (inr (slots, chosen, stops)) = absurd stops
-      leaves_made given is refused.CannotWriteOutput (inr (slots, chosen, stops)) = absurd stops
-      leaves_made given is refused.NoMemory (inr (slots, chosen, stops)) = (is_within given is, inl (gives.same, refl))
+  -- what was made of a compiled problem
+  pub gives_made_for : (d p : List ℕ) (c : Compiled) → SpellProblem d p r.checks c → (g : Option ℕ) → IsGiven r.numeral g → (made : Made) → IsMadeFor r c g made → GivesTranslation r d p (output_of made)
+  gives_made_for d p c spelled g is made (slots, chosen, made_is) = gives_translation d p c spelled g is slots chosen made made_is
 
-      module _ (given : Option ℕ) (is : IsGiven r.numeral given) (made : Made) (made_is : IsMade compiled given r.style r.checks made) where
-        abbrev texts : Texts
-        texts = texts_of made.texts
+  pub stops_made_for : (d p : List ℕ) (c : Compiled) → SpellProblem d p r.checks c → (g : Option ℕ) → IsGiven r.numeral g → (refusal : Refusal) → StopsMadeFor r c g refusal → StopsTexts (to_translate r) (d ∷ p ∷ []) refusal
+  stops_made_for d p c spelled g is refusal (inl stops) = chosen_stops d p c spelled g is refusal stops
+  stops_made_for d p c spelled g is refusal (inr (slots, chosen, stops)) = print_stops d p c spelled g is slots chosen refusal stops
 
-        -- what was made is the answer
-        answers : IsAnswer (to_translate r) old (writes r.names texts made.slots)
-        answers =
-            let source = for_slots given is made.slots made_is.chosen in
-            (refl, record { compiled = compiled; source = source; translated = translated source.problem.value compiled (record { slots = made.slots; style = r.style; checks = r.checks }) texts source.problem.read.sound source.problem.compiled_is source.some made_is.whole })
-
-        module _ (new : FilesState) (out' : SinkState) where
-          pub achieves : BothStand r.names texts mid new → TakesWhole (slots_line made.slots) out out' → Achieves old new out out' (to_translate r)
-          achieves stand told = record { answer = writes r.names texts made.slots; is = answers; given = (subst (λ z. BothStand r.names texts z new) gives.same stand, told) }
-
-          delivered : (refusal : Refusal) → StopsDelivery r.names made.slots texts old new out out' refusal → Leaves (to_translate r) old new out out' refusal
-          delivered refused.Words stops = absurd stops
-          delivered refused.BoundLimit stops = absurd stops
-          delivered (refused.SlotsLimit n) stops = absurd stops
-          delivered (refused.BytesLimit word) stops = absurd stops
-          delivered (refused.TextFault place code) stops = absurd stops
-          delivered (refused.TextLimit counted place) stops = absurd stops
-          delivered (refused.StepsLimit steps) stops = absurd stops
-          delivered (refused.NotAPlan step why) stops = absurd stops
-          delivered (refused.NotTailRecursive words) stops = absurd stops
-          delivered (refused.OutputLimit n) stops = absurd stops
-          delivered (refused.CannotRead word) stops = absurd stops
-          delivered (refused.CannotWrite word) stops = (r.names, texts, made.slots, answers, stops.0, stops.1)
-          delivered refused.CannotWriteOutput stops = (writes r.names texts made.slots, answers, stops)
-          delivered refused.NoMemory (inl stops) = (is_within given is, inl stops)
-          delivered refused.NoMemory (inr (inl stops)) = (is_within given is, inr (inl (r.names, texts, made.slots, answers, stops.0, stops.1)))
-          delivered refused.NoMemory (inr (inr stops)) = (is_within given is, inr (inr (writes r.names texts made.slots, answers, stops)))
-
-          pub leaves_delivery : (refusal : Refusal) → StopsDelivery r.names made.slots texts mid new out out' refusal → Leaves (to_translate r) old new out out' refusal
-          leaves_delivery refusal stops = delivered refusal (subst (λ z. StopsDelivery r.names made.slots texts z new out out' refusal) gives.same stops)
+  pub translation_fits : (d p : List ℕ) (output : Output) → GivesTranslation r d p output → length output.told ≤ longest_output
+  translation_fits d p output (texts, slots, written, e) = subst (λ (z : Output). length z.told ≤ longest_output) (sym e) (slots_line_fits slots written.source.few)
 
 -- A bound.
-module _ (r : BoundRequest) (old mid : FilesState) (out : SinkState) (compiled : Compiled) (gives : GivesProblem r.domain r.problem r.checks old mid compiled) where
-  pub leaves_bound : (refusal : Refusal) → StopsBound compiled refusal → Leaves (to_bound r) old mid out out refusal
-  leaves_bound refused.Words stops = absurd stops
-  leaves_bound refused.BoundLimit stops = ((stops.0, (compiled, gives.problem_is, stops.1), stops.2), gives.same, refl)
-  leaves_bound (refused.SlotsLimit n) stops = absurd stops
-  leaves_bound (refused.BytesLimit word) stops = absurd stops
-  leaves_bound (refused.TextFault place code) stops = absurd stops
-  leaves_bound (refused.TextLimit counted place) stops = absurd stops
-  leaves_bound (refused.StepsLimit steps) stops = absurd stops
-  leaves_bound (refused.NotAPlan step why) stops = absurd stops
-  leaves_bound (refused.NotTailRecursive words) stops = ((compiled, gives.problem_is, stops), gives.same, refl)
-  leaves_bound (refused.OutputLimit n) stops = absurd stops
-  leaves_bound (refused.CannotRead word) stops = absurd stops
-  leaves_bound (refused.CannotWrite word) stops = absurd stops
-  leaves_bound refused.CannotWriteOutput stops = absurd stops
-  leaves_bound refused.NoMemory stops = (tt, inl (gives.same, refl))
+module _ (r : BoundRequest) (d p : List ℕ) where
+  pub bound_fits : (output : Output) → GivesBound r d p output → length output.told ≤ longest_output
+  bound_fits output (n, has, small, e) = subst (λ (z : Output). length z.told ≤ longest_output) (sym e) (bound_line_fits n small)
 
-  module _ (n : ℕ) (bound : IsBound compiled n) (small : n < 2 ^ 128) (out' : SinkState) where
-    told : IsAnswer (to_bound r) old (tells n)
-    told = ((compiled, gives.problem_is, bound), small)
+  module _ (c : Compiled) (spelled : SpellProblem d p r.checks c) where
+    pub bound_not_computed : (refusal : Refusal) → StopsBound c refusal → StopsTexts (to_bound r) (d ∷ p ∷ []) refusal
+    bound_not_computed (refused.Finding (finding.NotTailRecursive words)) stops = inr (c, spelled, stops)
+    bound_not_computed (refused.Limit limit.Bound) (n, bound, past) = inr (n, (c, spelled, bound), past)
+    bound_not_computed (refused.Failure failure.Memory) stops = tt
+    bound_not_computed _ stops = absurd stops
 
-    pub achieves_bound : TakesWhole (bound_line n) out out' → Achieves old mid out out' (to_bound r)
-    achieves_bound takes = record { answer = tells n; is = told; given = (gives.same, takes) }
-
-    pub leaves_print : (refusal : Refusal) → StopsPrint (bound_line n) out out' refusal → Leaves (to_bound r) old mid out out' refusal
-    leaves_print refused.Words stops = absurd stops
-    leaves_print refused.BoundLimit stops = absurd stops
-    leaves_print (refused.SlotsLimit m) stops = absurd stops
-    leaves_print (refused.BytesLimit word) stops = absurd stops
-    leaves_print (refused.TextFault place code) stops = absurd stops
-    leaves_print (refused.TextLimit counted place) stops = absurd stops
-    leaves_print (refused.StepsLimit steps) stops = absurd stops
-    leaves_print (refused.NotAPlan step why) stops = absurd stops
-    leaves_print (refused.NotTailRecursive words) stops = absurd stops
-    leaves_print (refused.OutputLimit m) stops = absurd stops
-    leaves_print (refused.CannotRead word) stops = absurd stops
-    leaves_print (refused.CannotWrite word) stops = absurd stops
-    leaves_print refused.CannotWriteOutput stops = (tells n, told, (gives.same, stops))
-    leaves_print refused.NoMemory stops = (tt, inr (inr (tells n, told, (gives.same, stops))))
+    pub gives_bound : (n : ℕ) → IsBound c n → n < 2 ^ 128 → (made : Made) → output_of made ≡ told_alone (bound_line n) → GivesBound r d p (output_of made)
+    gives_bound n bound small made e = (n, (c, spelled, bound), small, e)
 
 -- A validation.
-module _ (r : ValidationRequest) (old mid : FilesState) (out : SinkState) (gives : GivesPlan r old mid) (out' : SinkState) where
-  pub achieves_plan : TakesWhole valid_line out out' → Achieves old mid out out' (to_validate r)
-  achieves_plan takes = record { answer = confirms; is = gives.1; given = (gives.0, takes) }
+module _ (r : ValidationRequest) (d p l : List ℕ) where
+  pub plan_stops : (refusal : Refusal) → StopsPlan (inputs_of (to_validate r)) d p l refusal → StopsTexts (to_validate r) (d ∷ p ∷ l ∷ []) refusal
+  plan_stops (refused.Limit (limit.Steps n)) stops = inr stops
+  plan_stops (refused.Finding f) stops = inr stops
+  plan_stops (refused.Fault place code) stops = inl stops
+  plan_stops (refused.Limit (limit.Text counted place)) stops = inl stops
+  plan_stops (refused.Failure failure.Memory) stops = tt
+  plan_stops _ stops = absurd stops
 
-  pub leaves_valid : (refusal : Refusal) → StopsPrint valid_line out out' refusal → Leaves (to_validate r) old mid out out' refusal
-  leaves_valid refused.Words stops = absurd stops
-  leaves_valid refused.BoundLimit stops = absurd stops
-  leaves_valid (refused.SlotsLimit m) stops = absurd stops
-  leaves_valid (refused.BytesLimit word) stops = absurd stops
-  leaves_valid (refused.TextFault place code) stops = absurd stops
-  leaves_valid (refused.TextLimit counted place) stops = absurd stops
-  leaves_valid (refused.StepsLimit steps) stops = absurd stops
-  leaves_valid (refused.NotTailRecursive words) stops = absurd stops
-  leaves_valid (refused.NotAPlan step why) stops = absurd stops
-  leaves_valid (refused.OutputLimit m) stops = absurd stops
-  leaves_valid (refused.CannotRead word) stops = absurd stops
-  leaves_valid (refused.CannotWrite word) stops = absurd stops
-  leaves_valid refused.CannotWriteOutput stops = (confirms, gives.1, (gives.0, stops))
-  leaves_valid refused.NoMemory stops = (tt, inr (inr (confirms, gives.1, (gives.0, stops))))
+  pub plan_fits : (output : Output) → output ≡ told_alone valid_line → length output.told ≤ longest_output
+  plan_fits output e = subst (λ (z : Output). length z.told ≤ longest_output) (sym e) (omega arith)

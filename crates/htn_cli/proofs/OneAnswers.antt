@@ -1,20 +1,122 @@
 -- Words have one answer at most.
-use Rattle.std.proofs.Common.{List, sym, ◌∙◌, subst, inl, inr}
+use Rattle.std.proofs.Common.{ℕ, ◌≡◌, ◌<◌, ◌≤◌, ◌++◌, List, [], ◌∷◌, Option, Some, IfSome, codes, refl, sym, ap, ◌∙◌, subst, inl, inr, arith}
+use Rattle.htn_base.specs.Limits.{most_slots}
 use Rattle.outside_io.specs.Files.{FilesState}
-use Rattle.outside_io.specs.command_words.Names.{Word}
-use Rattle.outside_io.specs.command_words.Words.{Request, to_translate, to_bound, to_validate}
-use Rattle.outside_io.proofs.command_words.Requests.{one_request}
-use Rattle.htn_cli.specs.Answer.{Answer, IsAnswer, IsAnswerTo}
-use Rattle.htn_cli.specs.OneAnswer.{AreTold, TellTheSame, EachHasOneAnswer}
-use Rattle.htn_cli.proofs.OneBound.{one_bounded}
-use Rattle.htn_cli.proofs.OneStage.{same_answer}
-use Rattle.htn_cli.proofs.OneTranslation.{one_translated}
-use Rattle.htn_cli.proofs.OneValidation.{one_validated}
+use Rattle.command_words.specs.Names.{Word}
+use Rattle.command_words.specs.Words.{TranslationRequest, BoundRequest, ValidationRequest, Request, to_translate, to_bound, to_validate}
+use Rattle.command_words.proofs.Requests.{one_request}
+use Rattle.htn_cli.specs.Answer.{Output, Answer, refuses, gives}
+use Rattle.htn_cli.specs.Answers.{Refuses, Gives, RefusesFault, RefusesSize, IsAnswerFor, past_slots, too_large, faulty, declined, given, IsAnswer, IsAnswerTo}
+use Rattle.htn_cli.specs.Ending.{status_by, line_by}
+use Rattle.htn_cli.specs.Inputs.{AreWhole}
+use Rattle.htn_cli.specs.OneAnswer.{output_by, AreTold, TellTheSame, EachHasOneAnswer}
+use Rattle.htn_cli.specs.Requests.{inputs_of, slots_given, IsWithin}
+use Rattle.htn_cli.specs.Slots.{RefusesSlots}
+use Rattle.htn_cli.specs.declared.refusal.Limit.TheVariants as limit
+use Rattle.htn_cli.specs.declared.refusal.Refusal.{Refusal}
+use Rattle.htn_cli.specs.declared.refusal.Refusal.TheVariants as refused
+use Rattle.htn_cli.proofs.OneBound.{BoundComes, one_bounded}
+use Rattle.htn_cli.proofs.OneFault.{one_fault, fault_not_declined, fault_not_given}
+use Rattle.htn_cli.proofs.OneInput.{Agree, agree, whole_same, large_not_whole, one_large}
+use Rattle.htn_cli.proofs.OneTranslation.{TranslationComes, past_few, one_past, one_translated}
+use Rattle.htn_cli.proofs.OneValidation.{PlanComes, one_validated}
+
+same_answer : (one other : Answer) → one ≡ other → TellTheSame one other
+same_answer one other e = record { status = ap status_by e; line = ap line_by e; output = ap output_by e }
+
+-- what follows from texts without a fault
+abbrev Comes : Request → List (List ℕ) → Answer → Type 0
+Comes request texts (refuses refusal) = Refuses request texts refusal
+Comes request texts (gives output) = Gives request texts output
+
+translation_comes : (r : TranslationRequest) (d p : List ℕ) (a : Answer) → Comes (to_translate r) (d ∷ p ∷ []) a → TranslationComes r d p a
+translation_comes r d p (refuses refusal) is = is
+translation_comes r d p (gives output) is = is
+
+bound_comes : (r : BoundRequest) (d p : List ℕ) (a : Answer) → Comes (to_bound r) (d ∷ p ∷ []) a → BoundComes r d p a
+bound_comes r d p (refuses refusal) is = is
+bound_comes r d p (gives output) is = is
+
+plan_comes : (r : ValidationRequest) (d p l : List ℕ) (a : Answer) → Comes (to_validate r) (d ∷ p ∷ l ∷ []) a → PlanComes d p l a
+plan_comes r d p l (refuses refusal) is = is
+plan_comes r d p l (gives output) is = is
+
+nothing_comes : (request : Request) (texts : List (List ℕ)) → ((refusal : Refusal) → Refuses request texts refusal → ⊥) → ((output : Output) → Gives request texts output → ⊥) → (a : Answer) → Comes request texts a → ⊥
+nothing_comes request texts r g (refuses refusal) is = r refusal is
+nothing_comes request texts r g (gives output) is = g output is
+
+one_comes : (request : Request) (texts : List (List ℕ)) (a b : Answer) → Comes request texts a → Comes request texts b → TellTheSame a b
+one_comes (to_translate r) (d ∷ p ∷ []) a b is also = one_translated r d p a b (translation_comes r d p a is) (translation_comes r d p b also)
+one_comes (to_bound r) (d ∷ p ∷ []) a b is also = one_bounded r d p a b (bound_comes r d p a is) (bound_comes r d p b also)
+one_comes (to_validate r) (d ∷ p ∷ l ∷ []) a b is also = one_validated d p l a b (plan_comes r d p l a is) (plan_comes r d p l b also)
+one_comes request texts a b is also = absurd (nothing_comes request texts (λ refusal x. x) (λ output x. x) a is)
+
+-- how far a run comes: a number of slots, a text that is too large, a fault, or what follows from the texts
+data Stage (request : Request) (texts : List (List ℕ)) : Answer → Type 0 where
+  before : (n : ℕ) (refusal : Refusal) → slots_given request ≡ Some n → RefusesSlots n refusal → Stage request texts (refuses refusal)
+  large : (refusal : Refusal) → IsWithin request → RefusesSize request texts refusal → Stage request texts (refuses refusal)
+  fault : (refusal : Refusal) → IsWithin request → AreWhole (inputs_of request) texts → RefusesFault request texts refusal → Stage request texts (refuses refusal)
+  come : (a : Answer) → IsWithin request → AreWhole (inputs_of request) texts → Comes request texts a → Stage request texts a
+
+stage : (request : Request) (texts : List (List ℕ)) (a : Answer) → IsAnswerFor request texts a → Stage request texts a
+stage request texts a (past_slots n refusal none e past) = before n refusal e past
+stage request texts a (too_large refusal inside size) = large refusal inside size
+stage request texts a (faulty refusal inside whole f) = fault refusal inside whole f
+stage request texts a (declined refusal inside whole x) = come (refuses refusal) inside whole x
+stage request texts a (given output inside whole x fits) = come (gives output) inside whole x
+
+inside_few : (o : Option ℕ) (n : ℕ) → o ≡ Some n → IfSome o (λ m. m ≤ most_slots) → n ≤ most_slots
+inside_few o n e few = subst (λ z. IfSome z (λ m. m ≤ most_slots)) e few
+
+not_inside : (request : Request) (n : ℕ) (refusal : Refusal) → slots_given request ≡ Some n → RefusesSlots n refusal → IsWithin request → ⊥
+not_inside request n refusal e past inside = let few = inside_few (slots_given request) n e inside in let many = past_few n refusal past in omega (arith, few, many)
+
+same_number : (o : Option ℕ) (n m : ℕ) → o ≡ Some n → o ≡ Some m → n ≡ m
+same_number o n m e f = let g : Some n ≡ Some m = sym e ∙ f in cc
+
+large_word : (request : Request) (texts : List (List ℕ)) (refusal : Refusal) → RefusesSize request texts refusal → (others : List (List ℕ)) → AreWhole (inputs_of request) others → Agree texts others → ⊥
+large_word request texts (refused.Limit (limit.Bytes name)) size others whole e = large_not_whole (inputs_of request) texts others name.now size whole e
+large_word request texts _ size others whole e = absurd size
+
+same_size : (request : Request) (texts others : List (List ℕ)) (a b : Refusal) → RefusesSize request texts a → RefusesSize request others b → Agree texts others → TellTheSame (refuses a) (refuses b)
+same_size request texts others (refused.Limit (limit.Bytes name)) (refused.Limit (limit.Bytes word)) size also e =
+    let same = one_large (inputs_of request) texts others name.now word.now size also e in
+    record { status = refl; line = λ i. codes "limit " ++ codes "bytes" ++ (codes " " ++ same i) ++ codes "\n"; output = refl }
+same_size request texts others (refused.Limit (limit.Bytes name)) _ size also e = absurd also
+same_size request texts others _ b size also e = absurd size
+
+not_both : (request : Request) (texts : List (List ℕ)) (f : Refusal) (a : Answer) → RefusesFault request texts f → Comes request texts a → ⊥
+not_both request texts f (refuses refusal) x y = fault_not_declined request texts f refusal x y
+not_both request texts f (gives output) x y = fault_not_given request texts f output x y
+
+module _ (request : Request) (texts others : List (List ℕ)) (e : Agree texts others) (f : Agree others texts) where
+  moved : (P : List (List ℕ) → Type 0) → AreWhole (inputs_of request) texts → AreWhole (inputs_of request) others → P others → P texts
+  moved P whole also x = subst P (sym (whole_same (inputs_of request) texts others whole also e)) x
+
+  same_stage : (a b : Answer) → Stage request texts a → Stage request others b → TellTheSame a b
+  same_stage a b (before n r g past) (before m q h also) = one_past n m (same_number (slots_given request) n m g h) r q past also
+  same_stage a b (before n r g past) (large q inside x) = absurd (not_inside request n r g past inside)
+  same_stage a b (before n r g past) (fault q inside whole x) = absurd (not_inside request n r g past inside)
+  same_stage a b (before n r g past) (come q inside whole x) = absurd (not_inside request n r g past inside)
+  same_stage a b (large r inside x) (before n q g past) = absurd (not_inside request n q g past inside)
+  same_stage a b (large r inside x) (large q within y) = same_size request texts others r q x y e
+  same_stage a b (large r inside x) (fault q within whole y) = absurd (large_word request texts r x others whole e)
+  same_stage a b (large r inside x) (come q within whole y) = absurd (large_word request texts r x others whole e)
+  same_stage a b (fault r inside whole x) (before n q g past) = absurd (not_inside request n q g past inside)
+  same_stage a b (fault r inside whole x) (large q within y) = absurd (large_word request others q y texts whole f)
+  same_stage a b (fault r inside whole x) (fault q within also y) = one_fault request texts r q x (moved (λ z. RefusesFault request z q) whole also y)
+  same_stage a b (fault r inside whole x) (come q within also y) = absurd (not_both request texts r q x (moved (λ z. Comes request z q) whole also y))
+  same_stage a b (come r inside whole x) (before n q g past) = absurd (not_inside request n q g past inside)
+  same_stage a b (come r inside whole x) (large q within y) = absurd (large_word request others q y texts whole f)
+  same_stage a b (come r inside whole x) (fault q within also y) = absurd (not_both request texts q r (moved (λ z. RefusesFault request z q) whole also y) x)
+  same_stage a b (come r inside whole x) (come q within also y) = one_comes request texts r q x (moved (λ z. Comes request z q) whole also y)
 
 one_by : (request : Request) (files : FilesState) → AreTold files → (one other : Answer) → IsAnswer request files one → IsAnswer request files other → TellTheSame one other
-one_by (to_translate request) files told = one_translated request files told
-one_by (to_bound request) files told = one_bounded request files told
-one_by (to_validate request) files told = one_validated request files told
+one_by request files told one other is also =
+    same_stage request is.texts also.texts
+    (agree files told (inputs_of request) is.texts also.texts is.got also.got)
+    (agree files told (inputs_of request) also.texts is.texts also.got is.got)
+    one other (stage request is.texts one is.answers) (stage request also.texts other also.answers)
 
 one_to : (words : List Word) (files : FilesState) → AreTold files → (one other : Answer) → IsAnswerTo words files one → IsAnswerTo words files other → TellTheSame one other
 one_to words files told one other (inl (formless, is)) (inl (also, are)) = same_answer one other (is ∙ sym are)

@@ -1,5 +1,6 @@
 -- What is printed of a compiled problem, where neither text is too long, or one is.
 use Rattle.std.proofs.Common.{ℕ, ◌<◌, ◌≤◌, ◌^◌, List, length, inl, inr, ap, ◌∙◌, arith}
+use Rattle.htn_base.specs.Limits.{longest_output}
 use Rattle.plan_model.specs.declared.values.Hddl.{Hddl}
 use Rattle.plan_model.specs.declared.values.Compiled.{Compiled}
 use Rattle.plan_texts.specs.PrintedTexts.{domain_text, problem_text}
@@ -10,23 +11,23 @@ use Rattle.text_forms.specs.sheets.Sheets.{capped}
 use Rattle.slot_encoding.proofs.existence.Encoded.{has_encoded_value}
 use Rattle.problem_texts.specs.declared.printing.Printed.TheVariants.{TooLong}
 use Rattle.problem_texts.specs.Lengths.{IsFirstPast, ArePrintedWithin}
-use Rattle.htn_cli.specs.Texts.{Texts, longest, IsFirstTooLong, AreTranslated, AreTooLong}
+use Rattle.htn_cli.specs.Texts.{Texts, IsFirstTooLong, AreTranslated, AreTooLong}
 use Rattle.htn_cli.specs.Printing.{AreWhole}
 use Rattle.htn_cli.specs.declared.manner.Manner.{Manner}
 
 -- a length that is told as far as 64 bits go is past the limit exactly where the whole length is
-short : (n : ℕ) → capped n ≤ longest → n ≤ longest
+short : (n : ℕ) → capped n ≤ longest_output → n ≤ longest_output
 short n few = omega (arith, few)
 
-long : (n : ℕ) → longest < capped n → longest < n
+long : (n : ℕ) → longest_output < capped n → longest_output < n
 long n past = omega (arith, past)
 
 -- the first text past the limit is the first that is too long
-first_too_long : (domain problem : List ℕ) (n : ℕ) → IsFirstPast longest domain problem n → IsFirstTooLong domain problem n
+first_too_long : (domain problem : List ℕ) (n : ℕ) → IsFirstPast longest_output domain problem n → IsFirstTooLong domain problem n
 first_too_long domain problem n (inl (past, is)) = inl (long (length domain) past, is)
 first_too_long domain problem n (inr (few, past, is)) = inr (short (length domain) few, long (length problem) past, is)
 
-pub past_is_long : (compiled : Compiled) (manner : Manner) (n : ℕ) → ArePrintedWithin compiled manner.slots manner.style longest (TooLong n) → AreTooLong compiled manner n
+pub past_is_long : (compiled : Compiled) (manner : Manner) (n : ℕ) → ArePrintedWithin compiled manner.slots manner.style longest_output (TooLong n) → AreTooLong compiled manner n
 past_is_long compiled manner n past =
     record { encoded = has_encoded_value compiled manner.slots manner.style; too_long = λ value encoded words. first_too_long (domain_text value) (problem_text value) n (past value encoded words) }
 

@@ -4,11 +4,12 @@ use Rattle.std.proofs.lemmas.List.{append-nil, length-append}
 use Rattle.plan_model.specs.declared.steps.GroundAction.{GroundAction}
 use Rattle.plan_model.specs.declared.values.Pddl.{Pddl}
 use Rattle.plan_model.specs.plan_meaning.ClassicalPlan.{IsPlan}
-use Rattle.plan_model.specs.plan_meaning.FailingStep.{Fails, goal_false}
+use Rattle.plan_model.specs.plan_meaning.FailingStep.{Fails}
 use Rattle.ground_state.specs.declared.run.Run.{Run}
-use Rattle.ground_state.specs.declared.verdict.FailWhy.{FailWhy}
-use Rattle.ground_state.specs.declared.verdict.FailWhy.TheVariants as why
-use Rattle.ground_state.specs.Runs.{cause, HasTaken, Takes, Reaches}
+use Rattle.plan_model.specs.declared.causes.FailWhy.{FailWhy}
+use Rattle.plan_model.specs.declared.causes.FailWhy.TheVariants.{GoalFalse}
+use Rattle.plan_model.specs.declared.causes.FailWhy.TheVariants as why
+use Rattle.ground_state.specs.Runs.{HasTaken, Takes, Reaches}
 use Rattle.htn_cli.specs.declared.checked.Checked.{Checked}
 use Rattle.htn_cli.specs.declared.checked.Checked.TheVariants as checked
 use Rattle.htn_cli.specs.Checks.{Judges}
@@ -44,7 +45,7 @@ module _ (p : Pddl) (most : ℕ) (plan : List GroundAction) where
         }
 
     pub one-fails : (w : FailWhy) → Takes step old new (Some w) → Judges p most plan (checked.Fails number w)
-    one-fails w t = (c.few, subst (λ n. Fails p plan n (cause w)) (sym c.next) (subst (λ s. Fails p s (length c.taken + 1) (cause w)) (sym (c.whole ∙ ap (λ s. c.taken ++ s) e)) (t p c.taken c.run_is more)))
+    one-fails w t = (c.few, subst (λ n. Fails p plan n w) (sym c.next) (subst (λ s. Fails p s (length c.taken + 1) w) (sym (c.whole ∙ ap (λ s. c.taken ++ s) e)) (t p c.taken c.run_is more)))
 
   module _ (steps : List GroundAction) (number : ℕ) (run : Run) (c : IsCheckedTo steps number run) (e : steps ≡ []) where
     all-taken : c.taken ≡ plan
@@ -54,4 +55,4 @@ module _ (p : Pddl) (most : ℕ) (plan : List GroundAction) where
     goal-holds r = (c.few, subst (IsPlan p) all-taken (r p c.taken c.run_is))
 
     pub goal-fails : Reaches run false → Judges p most plan (checked.Fails number why.GoalFalse)
-    goal-fails r = (c.few, subst (λ n. Fails p plan n goal_false) (sym c.next) (subst (λ s. Fails p s (length c.taken + 1) goal_false) all-taken (r p c.taken c.run_is)))
+    goal-fails r = (c.few, subst (λ n. Fails p plan n GoalFalse) (sym c.next) (subst (λ s. Fails p s (length c.taken + 1) GoalFalse) all-taken (r p c.taken c.run_is)))

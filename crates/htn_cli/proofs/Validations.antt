@@ -1,5 +1,6 @@
 -- What a sound PDDL value gives to the run of a plan, and which file a fault of three texts is in.
 use Rattle.std.proofs.Common.{ℕ, zero, suc, ◌≡◌, ◌<◌, List, [], ◌∷◌, map, length, slice_get, Some, All, Contains, refl, sym, ap, ◌∙◌, subst, arith}
+use Rattle.htn_base.specs.Limits.{most_steps}
 use Rattle.htn_base.specs.Different.{AreDifferent}
 use Rattle.text_forms.specs.Words.{Word, word_at}
 use Rattle.plan_texts.specs.Declared.{named}
@@ -17,7 +18,7 @@ use Rattle.plan_model.specs.declared.types.Parent.{Parent}
 use Rattle.plan_model.specs.declared.values.Pddl.{Pddl}
 use Rattle.plan_model.specs.plan_meaning.FailingStep.{AreNamedApart}
 use Rattle.ground_state.specs.Runs.{IsRunnable}
-use Rattle.ground_state.specs.declared.verdict.FailWhy.{FailWhy}
+use Rattle.plan_model.specs.declared.causes.FailWhy.{FailWhy}
 use Rattle.text_values.specs.form_spellings.SoundPddl.{IsSoundClassical}
 use Rattle.text_forms.specs.Faults.{fault}
 use Rattle.hddl_reader.specs.declared.sections.Language.TheVariants as language
@@ -26,8 +27,10 @@ use Rattle.text_values.specs.PddlValues.{IsValueOf}
 use Rattle.plan_text.specs.Plans.{IsPlanFault, IsPlanRead}
 use Rattle.htn_cli.specs.declared.checked.Checked.TheVariants as checked
 use Rattle.htn_cli.specs.Checks.{IsChecked}
-use Rattle.htn_cli.specs.Validation.{Spell, IsLeastOfThree, of_plan, most_steps}
+use Rattle.htn_cli.specs.Validation.{Spell, IsLeastOfThree, of_plan}
 use Rattle.htn_cli.specs.Stops.{IsConfirmedFor, StopsFor}
+use Rattle.htn_cli.specs.declared.refusal.Finding.TheVariants as finding
+use Rattle.htn_cli.specs.declared.refusal.Limit.TheVariants as limit
 use Rattle.htn_cli.specs.declared.refusal.Refusal.TheVariants as refused
 
 -- things with different words are told apart by their words
@@ -144,10 +147,10 @@ module _ (value : Pddl) (plan : List ℕ) where
   confirmed_for c domain problem is = (value, c.0, record { spelled = spell domain problem is c.0 c.1; few = c.2.0 }, c.2.1)
 
   module _ (names : List Word) where
-    pub too_many_for : (n : ℕ) → IsChecked value plan most_steps (checked.TooMany n) → StopsFor names value plan (refused.StepsLimit n)
+    pub too_many_for : (n : ℕ) → IsChecked value plan most_steps (checked.TooMany n) → StopsFor names value plan (refused.Limit (limit.Steps n))
     too_many_for n c domain problem is = (value, c.0, spell domain problem is c.0 c.1, c.2.0, c.2.1)
 
-    pub fails_for : (step : ℕ) (why : FailWhy) → IsChecked value plan most_steps (checked.Fails step why) → StopsFor names value plan (refused.NotAPlan step why)
+    pub fails_for : (step : ℕ) (why : FailWhy) → IsChecked value plan most_steps (checked.Fails step why) → StopsFor names value plan (refused.Finding (finding.NotAPlan step why))
     fails_for step why c domain problem is = (value, c.0, record { spelled = spell domain problem is c.0 c.1; few = c.2.0 }, c.2.1)
 
 -- the fault of a plan's text is the least of three texts, where the two others have none

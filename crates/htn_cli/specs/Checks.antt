@@ -5,7 +5,6 @@ use Rattle.plan_model.specs.declared.steps.GroundAction.{GroundAction}
 use Rattle.plan_model.specs.declared.values.Pddl.{Pddl}
 use Rattle.plan_model.specs.plan_meaning.ClassicalPlan.{IsPlan}
 use Rattle.plan_model.specs.plan_meaning.FailingStep.{Fails}
-use Rattle.ground_state.specs.Runs.{cause}
 use Rattle.plan_text.specs.Plans.{IsPlanRead}
 use Rattle.htn_cli.specs.declared.checked.Checked.{Checked}
 use Rattle.htn_cli.specs.declared.checked.Checked.TheVariants as checked
@@ -14,7 +13,7 @@ use Rattle.htn_cli.specs.declared.checked.Checked.TheVariants as checked
 abbrev pub Judges : Pddl → ℕ → List GroundAction → Checked → Type 0
 Judges p most steps checked.Plan = (length steps ≤ most) × IsPlan p steps
 Judges p most steps (checked.TooMany n) = (n ≡ length steps) × (most < n)
-Judges p most steps (checked.Fails n w) = (length steps ≤ most) × Fails p steps n (cause w)
+Judges p most steps (checked.Fails n w) = (length steps ≤ most) × Fails p steps n w
 
 -- of the steps that a text spells
 abbrev pub IsChecked : Pddl → List ℕ → ℕ → Checked → Type 0

@@ -3,12 +3,14 @@
 use Rattle.std.specs.Prelude.{ℕ, ◌≡◌, ◌⊎◌, List, [], Some}
 use Rattle.outside_io.specs.Files.{FilesState}
 use Rattle.outside_io.specs.Sink.{SinkState}
-use Rattle.outside_io.specs.command_words.Names.{Word}
-use Rattle.outside_io.specs.command_words.Words.{TranslationRequest, BoundRequest, ValidationRequest, Request, number_of, AsksTranslation, AsksBound, AsksValidation, Asks, AreOfAForm}
-use Rattle.htn_cli.specs.Answer.{Answer, refuses, IsAnswer, IsAnswerTo}
+use Rattle.command_words.specs.Names.{Word}
+use Rattle.command_words.specs.Words.{Request, Asks, AreOfAForm}
+use Rattle.htn_cli.specs.Answer.{Output, Answer, refuses, gives}
+use Rattle.htn_cli.specs.Answers.{IsAnswer, IsAnswerTo}
+use Rattle.htn_cli.specs.Requests.{outputs_of, slots_given}
 use Rattle.htn_cli.specs.Refusal.{status_of, line_of}
 use Rattle.htn_cli.specs.Sent.{TakesWhole, Told}
-use Rattle.htn_cli.specs.Left.{StandsUpTo, Gives, Leaves}
+use Rattle.htn_cli.specs.Left.{StandsUpTo, Leave, Leaves}
 use Rattle.htn_cli.specs.declared.status.Status.{Status}
 use Rattle.htn_cli.specs.declared.status.Status.TheVariants as status
 use Rattle.htn_cli.specs.declared.refusal.Refusal.{Refusal}
@@ -17,11 +19,11 @@ use Rattle.htn_cli.specs.declared.refusal.Refusal.TheVariants as refused
 -- the status of an answer, and the line that standard error is told
 abbrev pub status_by : Answer → Status
 status_by (refuses refusal) = status_of refusal
-status_by _ = status.Done
+status_by (gives output) = status.Done
 
 abbrev pub line_by : Answer → List ℕ
 line_by (refuses refusal) = line_of refusal
-line_by _ = []
+line_by (gives output) = []
 
 -- the statuses with which an answer may end: with the others memory was refused, or something outside failed
 abbrev pub IsOfAnAnswer : Status → Type 0
@@ -33,9 +35,9 @@ IsOfAnAnswer _ = Unit {0}
 module _ (files files' : FilesState) (out out' : SinkState) where
   -- what was asked for was done
   pub record Achieves (request : Request) : Type 0 where
-    pub answer : Answer
-    pub is : IsAnswer request files answer
-    pub given : StandsUpTo TakesWhole answer files files' out out'
+    pub output : Output
+    pub is : IsAnswer request files (gives output)
+    pub stands : StandsUpTo TakesWhole output files files' out out'
 
   -- nothing changed but standard error, which was told the line of this refusal
   pub record IsRefusedFor (refusal : Refusal) (ended : Status) (err err' : SinkState) : Type 0 where
@@ -79,20 +81,16 @@ module _ (words : List Word) (files files' : FilesState) (out out' : SinkState) 
     pub answer : Answer
     pub is : IsAnswerTo words files answer
     pub status_is : ended ≡ status_by answer
-    pub given : Gives answer files files' out out'
+    pub left : Leave answer files files' out out'
     pub told : Told (line_by answer) err err'
 
--- the words ask for a translation with so many slots
+-- the words ask for so many slots
 abbrev pub AskForSlots : List Word → ℕ → Type 0
-AskForSlots words n = (request : TranslationRequest) × (numeral : Word) × AsksTranslation words request × (request.numeral ≡ Some numeral) × (n ≡ number_of numeral)
+AskForSlots words n = (request : Request) × Asks words request × (slots_given request ≡ Some n)
 
--- the words ask for a bound
-abbrev pub AskForBound : List Word → Type 0
-AskForBound words = (request : BoundRequest) × AsksBound words request
-
--- the words ask for a validation
-abbrev pub AskForValidation : List Word → Type 0
-AskForValidation words = (request : ValidationRequest) × AsksValidation words request
+-- the words ask for what writes no file
+abbrev pub AskForNoFile : List Word → Type 0
+AskForNoFile words = (request : Request) × Asks words request × (outputs_of request ≡ [])
 
 -- the statuses of a run that was refused before its first put
 abbrev pub IsBeforePuts : Status → Type 0

@@ -1,34 +1,23 @@
 -- That a run has one answer at most: two answers to the same words, where the files tell what they hold, end with one status, tell one line
--- and have the same outputs. A refusal holds references to words, so answers are compared by what is told.
+-- and have the same output. A refusal holds references to words, so answers are compared by what is told.
 -- Source: this project's.
-use Rattle.std.specs.Prelude.{ℕ, ◌≡◌, List, Some}
+use Rattle.std.specs.Prelude.{ℕ, ◌≡◌, List, Option, Some, None}
 use Rattle.outside_io.specs.Folder.{Folder}
 use Rattle.outside_io.specs.Files.{FilesState}
-use Rattle.outside_io.specs.command_words.Names.{Word, Names}
-use Rattle.htn_cli.specs.Texts.{Texts}
-use Rattle.htn_cli.specs.Answer.{Answer, refuses, writes, tells, confirms, IsAnswerTo}
+use Rattle.command_words.specs.Names.{Word}
+use Rattle.htn_cli.specs.Answer.{Output, Answer, refuses, gives}
+use Rattle.htn_cli.specs.Answers.{IsAnswerTo}
 use Rattle.htn_cli.specs.Ending.{status_by, line_by}
 
--- the outputs of an answer: none, where it is a refusal
-pub data Outputs : Type 0 where
-  none : Outputs
-  -- two texts in the files of these names, and the number of slots
-  both_texts : Names → Texts → (slots : ℕ) → Outputs
-  -- the bound
-  bound : ℕ → Outputs
-  -- that the list is a plan
-  valid : Outputs
-
-abbrev pub outputs_by : Answer → Outputs
-outputs_by (refuses refusal) = none
-outputs_by (writes names texts slots) = both_texts names texts slots
-outputs_by (tells n) = bound n
-outputs_by confirms = valid
+-- the output of an answer: none, where it is a refusal
+abbrev pub output_by : Answer → Option Output
+output_by (refuses refusal) = None
+output_by (gives output) = Some output
 
 pub record TellTheSame (one other : Answer) : Type 0 where
   pub status : status_by one ≡ status_by other
   pub line : line_by one ≡ line_by other
-  pub outputs : outputs_by one ≡ outputs_by other
+  pub output : output_by one ≡ output_by other
 
 -- the files tell what they hold
 abbrev pub AreTold : FilesState → Type 0

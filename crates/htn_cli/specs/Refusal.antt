@@ -1,11 +1,21 @@
-use Rattle.std.specs.Prelude.{ℕ, List, ◌++◌, codes, decimal}
+-- The status of a refusal, and its one line on standard error.
+-- Source: this project's.
+use Rattle.std.specs.Prelude.{ℕ, List, [], ◌++◌, codes, decimal}
 use Rattle.htn_cli.specs.declared.status.Status.{Status}
 use Rattle.htn_cli.specs.declared.status.Status.TheVariants as status
+use Rattle.plan_model.specs.declared.causes.FailWhy.{FailWhy}
+use Rattle.plan_model.specs.declared.causes.FailWhy.TheVariants as why
+use Rattle.htn_cli.specs.Faults.{place_text, fault_text}
+use Rattle.htn_cli.specs.declared.faults.Counted.{Counted}
+use Rattle.htn_cli.specs.declared.faults.Counted.TheVariants.{Depth, Subtasks, Types}
 use Rattle.htn_cli.specs.declared.refusal.Refusal.{Refusal}
-use Rattle.ground_state.specs.declared.verdict.FailWhy.{FailWhy}
-use Rattle.ground_state.specs.declared.verdict.FailWhy.TheVariants as why
-use Rattle.htn_cli.specs.Faults.{limit_word, place_text, fault_text}
-use Rattle.htn_cli.specs.declared.refusal.Refusal.TheVariants.{Words, BoundLimit, SlotsLimit, BytesLimit, TextFault, TextLimit, StepsLimit, NotTailRecursive, NotAPlan, OutputLimit, CannotRead, CannotWrite, CannotWriteOutput, NoMemory}
+use Rattle.htn_cli.specs.declared.refusal.Refusal.TheVariants as refused
+use Rattle.htn_cli.specs.declared.refusal.Limit.{Limit}
+use Rattle.htn_cli.specs.declared.refusal.Limit.TheVariants as limit
+use Rattle.htn_cli.specs.declared.refusal.Finding.{Finding}
+use Rattle.htn_cli.specs.declared.refusal.Finding.TheVariants as finding
+use Rattle.htn_cli.specs.declared.refusal.Failure.{Failure}
+use Rattle.htn_cli.specs.declared.refusal.Failure.TheVariants as failure
 
 -- the number with which the program ends
 abbrev pub code_of : Status → ℕ
@@ -19,21 +29,41 @@ code_of status.Finding = 6
 code_of status.Limit = 7
 
 -- the status of a run that ends with this refusal
+abbrev pub failure_status : Failure → Status
+failure_status (failure.Reading name) = status.ReadFault
+failure_status (failure.Writing name) = status.WriteFault
+failure_status failure.Telling = status.WriteFault
+failure_status failure.Memory = status.NoMemory
+
 abbrev pub status_of : Refusal → Status
-status_of Words = status.Words
-status_of BoundLimit = status.Limit
-status_of (SlotsLimit n) = status.Limit
-status_of (BytesLimit name) = status.Limit
-status_of (TextFault place code) = status.TextFault
-status_of (TextLimit counted place) = status.Limit
-status_of (StepsLimit n) = status.Limit
-status_of (NotTailRecursive words) = status.Finding
-status_of (NotAPlan step why) = status.Finding
-status_of (OutputLimit n) = status.Limit
-status_of (CannotRead name) = status.ReadFault
-status_of (CannotWrite name) = status.WriteFault
-status_of CannotWriteOutput = status.WriteFault
-status_of NoMemory = status.NoMemory
+status_of refused.Words = status.Words
+status_of (refused.Fault place code) = status.TextFault
+status_of (refused.Limit l) = status.Limit
+status_of (refused.Finding f) = status.Finding
+status_of (refused.Failure f) = failure_status f
+
+-- what is counted, by its word
+abbrev pub counted_word : Counted → List ℕ
+counted_word Depth = codes "depth"
+counted_word Subtasks = codes "subtasks"
+counted_word Types = codes "types"
+
+abbrev pub limit_word : Limit → List ℕ
+limit_word limit.Bound = codes "bound"
+limit_word (limit.Slots n) = codes "slots"
+limit_word (limit.Bytes name) = codes "bytes"
+limit_word (limit.Text counted place) = counted_word counted
+limit_word (limit.Steps n) = codes "steps"
+limit_word (limit.Output n) = codes "output"
+
+-- and what is told of it: how much there is, or in which file, or where
+abbrev pub limit_extent : Limit → List ℕ
+limit_extent limit.Bound = []
+limit_extent (limit.Slots n) = codes " " ++ decimal n
+limit_extent (limit.Bytes name) = codes " " ++ name.now
+limit_extent (limit.Text counted place) = codes " " ++ place_text place
+limit_extent (limit.Steps n) = codes " " ++ decimal n
+limit_extent (limit.Output n) = codes " " ++ decimal n
 
 -- the word of why a step fails
 abbrev pub cause_word : FailWhy → List ℕ
@@ -42,19 +72,22 @@ cause_word why.Arguments = codes "Arguments"
 cause_word why.Condition = codes "Condition"
 cause_word why.GoalFalse = codes "GoalFalse"
 
--- its one line on standard error
+abbrev pub finding_text : Finding → List ℕ
+finding_text (finding.NotTailRecursive words) = codes "not tail-recursive:" ++ words
+finding_text (finding.NotAPlan step why) = codes "not a plan: step " ++ decimal step ++ codes " " ++ cause_word why
+
+abbrev pub failure_text : Failure → List ℕ
+failure_text (failure.Reading name) = codes "cannot read " ++ name.now
+failure_text (failure.Writing name) = codes "cannot write " ++ name.now
+failure_text failure.Telling = codes "cannot write standard output"
+failure_text failure.Memory = codes "out of memory"
+
+abbrev pub refusal_text : Refusal → List ℕ
+refusal_text refused.Words = codes "words refused"
+refusal_text (refused.Fault place code) = fault_text place code
+refusal_text (refused.Limit l) = codes "limit " ++ limit_word l ++ limit_extent l
+refusal_text (refused.Finding f) = finding_text f
+refusal_text (refused.Failure f) = failure_text f
+
 abbrev pub line_of : Refusal → List ℕ
-line_of Words = codes "words refused\n"
-line_of BoundLimit = codes "limit bound\n"
-line_of (SlotsLimit n) = codes "limit slots " ++ decimal n ++ codes "\n"
-line_of (BytesLimit name) = codes "limit bytes " ++ name.now ++ codes "\n"
-line_of (TextFault place code) = fault_text place code ++ codes "\n"
-line_of (TextLimit counted place) = codes "limit " ++ limit_word counted ++ codes " " ++ place_text place ++ codes "\n"
-line_of (StepsLimit n) = codes "limit steps " ++ decimal n ++ codes "\n"
-line_of (NotTailRecursive words) = codes "not tail-recursive:" ++ words ++ codes "\n"
-line_of (NotAPlan step why) = codes "not a plan: step " ++ decimal step ++ codes " " ++ cause_word why ++ codes "\n"
-line_of (OutputLimit n) = codes "limit output " ++ decimal n ++ codes "\n"
-line_of (CannotRead name) = codes "cannot read " ++ name.now ++ codes "\n"
-line_of (CannotWrite name) = codes "cannot write " ++ name.now ++ codes "\n"
-line_of CannotWriteOutput = codes "cannot write standard output\n"
-line_of NoMemory = codes "out of memory\n"
+line_of refusal = refusal_text refusal ++ codes "\n"

@@ -1,107 +1,103 @@
 -- How one step of a run is refused: what it leaves, and with which refusal it ends the run.
-use Rattle.std.specs.Prelude.{◌≡◌, ◌<◌, ◌≤◌, ◌^◌, ◌⊎◌, ℕ, List, [], ◌∷◌, Option, Some, None}
+use Rattle.std.specs.Prelude.{◌≡◌, ◌<◌, ◌≤◌, ◌^◌, ◌⊎◌, ℕ, List, [], ◌∷◌, Option, Some, None, IfSome, length}
+use Rattle.htn_base.specs.Limits.{longest_input, most_slots}
 use Rattle.outside_io.specs.Files.{FilesState, GetFails, PutFails}
 use Rattle.outside_io.specs.Sink.{SinkState}
 use Rattle.plan_model.specs.declared.options.Checks.{Checks}
-use Rattle.plan_model.specs.declared.options.Style.{Style}
-use Rattle.plan_model.specs.declared.values.Hddl.{Hddl}
 use Rattle.plan_model.specs.declared.values.Compiled.{Compiled}
 use Rattle.plan_model.specs.declared.values.Pddl.{Pddl}
 use Rattle.plan_model.specs.plan_meaning.Bound.{IsBound}
 use Rattle.text_values.specs.PddlValues as pddl
-use Rattle.plan_model.specs.plan_meaning.Compilation.{IsCompiled}
+use Rattle.hddl_reader.specs.declared.sections.Language.TheVariants as language
+use Rattle.text_values.specs.TextFaults.{IsLeastFault}
 use Rattle.bound_calc.specs.NoBound.{NamesCycle}
-use Rattle.outside_io.specs.command_words.Names.{Word, Names}
-use Rattle.outside_io.specs.command_words.Bounds.{most_slots}
-use Rattle.outside_io.specs.command_words.Words.{ValidationRequest, number_of}
-use Rattle.htn_cli.specs.Texts.{Texts, AreTooLong, texts_of}
-use Rattle.htn_cli.specs.Printing.{AreWhole}
-use Rattle.htn_cli.specs.declared.translation.Made.{Made}
-use Rattle.text_values.specs.Values.{IsValueOf}
-use Rattle.htn_cli.specs.Faults.{HaveLeastFault, IsNoLimit, limit_code}
-use Rattle.htn_cli.specs.Inputs.{IsInput, IsTooLarge, IsFirstTooLarge, FailsToRead, HaveFault, HaveProblem}
-use Rattle.htn_cli.specs.Validation.{AreConfirmed, HavePlan, RefuseTexts, RefusesValidation, validation_inputs}
-use Rattle.htn_cli.specs.Left.{FirstStands, BothStand, LeavesUnwritten, slots_line}
-use Rattle.htn_cli.specs.declared.manner.Manner.{Manner}
+use Rattle.command_words.specs.Names.{Word, AreApart}
+use Rattle.command_words.specs.Bounds.{IsNumeral}
+use Rattle.command_words.specs.Words.{Request, translation_of, number_of}
+use Rattle.command_words.specs.declared.asking.Asked.{Asked}
+use Rattle.command_words.specs.declared.asking.Asked.TheVariants as asked
+use Rattle.htn_cli.specs.Answer.{Text, Output, refuses}
+use Rattle.htn_cli.specs.Answers.{IsAnswer, RefusesFault, Refuses}
+use Rattle.htn_cli.specs.Faults.{IsFaultAt, IsNoLimit, limit_code}
+use Rattle.htn_cli.specs.Inputs.{AreGot, AreShort, EndTooLarge, FailsToRead}
+use Rattle.htn_cli.specs.Problem.{SpellProblem}
+use Rattle.htn_cli.specs.Requests.{inputs_of, IsWithin}
+use Rattle.htn_cli.specs.Slots.{RefusesSlots}
+use Rattle.htn_cli.specs.Told.{Reads}
+use Rattle.htn_cli.specs.Texts.{AreTooLong}
+use Rattle.htn_cli.specs.Validation.{IsLeastOfThree, RefusesPlan, AreConfirmed}
+use Rattle.htn_cli.specs.Left.{Stand, FailsToPut, StandInPart, StandsUpTo}
 use Rattle.htn_cli.specs.Sent.{TakesThenFails, TakesThenStarves}
+use Rattle.htn_cli.specs.declared.faults.Place.{Place}
+use Rattle.htn_cli.specs.declared.manner.Manner.{Manner}
+use Rattle.htn_cli.specs.declared.refusal.Failure.TheVariants as failure
+use Rattle.htn_cli.specs.declared.refusal.Finding.TheVariants as finding
+use Rattle.htn_cli.specs.declared.refusal.Limit.TheVariants as limit
 use Rattle.htn_cli.specs.declared.refusal.Refusal.{Refusal}
 use Rattle.htn_cli.specs.declared.refusal.Refusal.TheVariants as refused
 
 -- an input that was read, with all its bytes
 pub record GivesInput (name : Word) (old new : FilesState) (bytes : List ℕ) : Type 0 where
   pub same : new ≡ old
-  pub input : IsInput old name bytes
+  pub read : Reads old name bytes
+  pub short : length bytes ≤ longest_input
 
 -- an input that was not read, or is too large
 abbrev pub StopsInput : Word → FilesState → FilesState → Refusal → Type 0
-StopsInput name old new (refused.CannotRead word) = (word.now ≡ name) × GetFails old new name
-StopsInput name old new (refused.BytesLimit word) = (word.now ≡ name) × IsTooLarge old name × (new ≡ old)
-StopsInput name old new refused.NoMemory = new ≡ old
+StopsInput name old new (refused.Failure (failure.Reading word)) = (word.now ≡ name) × GetFails old new name
+StopsInput name old new (refused.Failure failure.Memory) = new ≡ old
+StopsInput name old new (refused.Limit (limit.Bytes word)) =
+    (word.now ≡ name) × ((bytes : List ℕ) × Reads old name bytes × (longest_input < length bytes)) × (new ≡ old)
 StopsInput name old new _ = ⊥
 
--- the texts that spell a problem, of which this is the compiled value
-pub record GivesTexts (domain problem : List ℕ) (checks : Checks) (compiled : Compiled) : Type 0 where
-  pub spelled : Hddl
-  pub read : IsValueOf domain problem spelled
-  pub compiled_is : IsCompiled spelled checks compiled
+-- the first inputs of these names, as they were read one after another
+pub record GivesTexts (names : List Word) (old new : FilesState) (texts : List (List ℕ)) : Type 0 where
+  pub same : new ≡ old
+  pub got : AreGot old names texts
+  pub short : AreShort texts
+
+-- inputs, one of which was not read, or is too large
+abbrev pub StopsReading : List Word → FilesState → FilesState → Refusal → Type 0
+StopsReading names old new (refused.Failure (failure.Reading word)) = FailsToRead old names new word.now
+StopsReading names old new (refused.Failure failure.Memory) = new ≡ old
+StopsReading names old new (refused.Limit (limit.Bytes word)) =
+    ((texts : List (List ℕ)) × AreGot old names texts × EndTooLarge names texts word.now) × (new ≡ old)
+StopsReading names old new _ = ⊥
 
 -- the texts with a fault, of files with these names
-abbrev pub StopsTexts : (domain_text problem_text : List ℕ) → (domain problem : Word) → Refusal → Type 0
-StopsTexts domain_text problem_text domain problem (refused.TextFault place code) = HaveLeastFault domain problem domain_text problem_text place code × IsNoLimit code
-StopsTexts domain_text problem_text domain problem (refused.TextLimit counted place) = HaveLeastFault domain problem domain_text problem_text place (limit_code counted)
-StopsTexts domain_text problem_text domain problem refused.NoMemory = Unit {0}
-StopsTexts domain_text problem_text domain problem _ = ⊥
+abbrev pub StopsFault : List Word → ((file code at : ℕ) → Type 0) → Refusal → Type 0
+StopsFault names IsLeast (refused.Fault place code) = IsFaultAt names IsLeast place code × IsNoLimit code
+StopsFault names IsLeast (refused.Limit (limit.Text counted place)) = IsFaultAt names IsLeast place (limit_code counted)
+StopsFault names IsLeast (refused.Failure failure.Memory) = Unit {0}
+StopsFault names IsLeast _ = ⊥
 
-module _ (domain problem : Word) where
-  -- the problem that was read and compiled
-  pub record GivesProblem (checks : Checks) (old new : FilesState) (compiled : Compiled) : Type 0 where
-    pub same : new ≡ old
-    pub problem_is : HaveProblem old domain problem checks compiled
-
-  -- the problem that was not read
-  abbrev pub StopsProblem : FilesState → FilesState → Refusal → Type 0
-  StopsProblem old new (refused.CannotRead word) = FailsToRead old (domain ∷ problem ∷ []) new word.now
-  StopsProblem old new (refused.BytesLimit word) = IsFirstTooLarge old (domain ∷ problem ∷ []) word.now × (new ≡ old)
-  StopsProblem old new (refused.TextFault place code) = HaveFault old domain problem place code × IsNoLimit code × (new ≡ old)
-  StopsProblem old new (refused.TextLimit counted place) = HaveFault old domain problem place (limit_code counted) × (new ≡ old)
-  StopsProblem old new refused.NoMemory = new ≡ old
-  StopsProblem old new _ = ⊥
-
--- the three texts of a validation, a plan among them
-abbrev pub GivesPlan : ValidationRequest → FilesState → FilesState → Type 0
-GivesPlan request old new = (new ≡ old) × HavePlan request old
-
--- and a list that is none, or could not be read
-abbrev pub StopsPlan : ValidationRequest → FilesState → FilesState → Refusal → Type 0
-StopsPlan request old new (refused.CannotRead word) = FailsToRead old (validation_inputs request) new word.now
-StopsPlan request old new refused.NoMemory = new ≡ old
-StopsPlan request old new refusal = RefusesValidation request old refusal × (new ≡ old)
-
--- three texts of files with these names that hold no plan; or memory ran out
-abbrev pub StopsTextsOf : List Word → (domain problem plan : List ℕ) → Refusal → Type 0
-StopsTextsOf names domain problem plan refused.NoMemory = Unit {0}
-StopsTextsOf names domain problem plan refusal = RefuseTexts domain problem plan names refusal
+-- texts of all inputs of a request that give no output
+abbrev pub StopsTexts : Request → List (List ℕ) → Refusal → Type 0
+StopsTexts request texts (refused.Failure failure.Memory) = Unit {0}
+StopsTexts request texts (refused.Failure _) = ⊥
+StopsTexts request texts refusal = RefusesFault request texts refusal ⊎ Refuses request texts refusal
 
 -- a text of steps that are a plan of a value, over each two texts with this value
 abbrev pub IsConfirmedFor : Pddl → List ℕ → Type 0
 IsConfirmedFor value plan = (domain problem : List ℕ) → pddl.IsValueOf domain problem value → AreConfirmed domain problem plan
 
--- and one that holds no plan of it
+-- three texts of files with these names that hold no plan; or memory ran out
+abbrev pub StopsPlan : List Word → (domain problem plan : List ℕ) → Refusal → Type 0
+StopsPlan names domain problem plan (refused.Limit (limit.Steps n)) = RefusesPlan domain problem plan (refused.Limit (limit.Steps n))
+StopsPlan names domain problem plan (refused.Finding f) = RefusesPlan domain problem plan (refused.Finding f)
+StopsPlan names domain problem plan refusal = StopsFault names (IsLeastOfThree domain problem plan) refusal
+
+-- and a text that holds no plan of a value
 abbrev pub StopsFor : List Word → Pddl → List ℕ → Refusal → Type 0
-StopsFor names value plan refusal = (domain problem : List ℕ) → pddl.IsValueOf domain problem value → StopsTextsOf names domain problem plan refusal
+StopsFor names value plan refusal = (domain problem : List ℕ)
+    → pddl.IsValueOf domain problem value → StopsPlan names domain problem plan refusal
 
 -- a bound that was not computed
 abbrev pub StopsBound : Compiled → Refusal → Type 0
-StopsBound compiled (refused.NotTailRecursive words) = NamesCycle compiled words
-StopsBound compiled refused.BoundLimit = (n : ℕ) × IsBound compiled n × (2 ^ 128 ≤ n)
-StopsBound compiled refused.NoMemory = Unit {0}
+StopsBound compiled (refused.Finding (finding.NotTailRecursive words)) = NamesCycle compiled words
+StopsBound compiled (refused.Limit limit.Bound) = (n : ℕ) × IsBound compiled n × (2 ^ 128 ≤ n)
+StopsBound compiled (refused.Failure failure.Memory) = Unit {0}
 StopsBound compiled _ = ⊥
-
--- a number of slots that is too great
-abbrev pub StopsSlots : ℕ → Refusal → Type 0
-StopsSlots n (refused.SlotsLimit slots) = (slots ≡ n) × (most_slots < n) × (n < 2 ^ 128)
-StopsSlots n refused.BoundLimit = 2 ^ 128 ≤ n
-StopsSlots n _ = ⊥
 
 -- so many slots, which are printed
 pub record AreSlots (n slots : ℕ) : Type 0 where
@@ -117,7 +113,7 @@ IsGiven (Some numeral) None = ⊥
 IsGiven None (Some slots) = ⊥
 
 abbrev pub StopsGiven : Option Word → Refusal → Type 0
-StopsGiven (Some numeral) refusal = StopsSlots (number_of numeral) refusal
+StopsGiven (Some numeral) refusal = RefusesSlots (number_of numeral) refusal
 StopsGiven None refusal = ⊥
 
 -- the bound of the problem, as a number of slots
@@ -125,13 +121,18 @@ abbrev pub IsComputed : Compiled → ℕ → Type 0
 IsComputed compiled slots = (n : ℕ) × IsBound compiled n × AreSlots n slots
 
 abbrev pub StopsComputed : Compiled → Refusal → Type 0
-StopsComputed compiled refusal = StopsBound compiled refusal ⊎ ((n : ℕ) × IsBound compiled n × StopsSlots n refusal)
+StopsComputed compiled refusal = StopsBound compiled refusal ⊎ ((n : ℕ) × IsBound compiled n × RefusesSlots n refusal)
 
 -- a text that was not made
 abbrev pub StopsPrinted : Compiled → Manner → Refusal → Type 0
-StopsPrinted compiled manner (refused.OutputLimit n) = AreTooLong compiled manner n
-StopsPrinted compiled manner refused.NoMemory = Unit {0}
+StopsPrinted compiled manner (refused.Limit (limit.Output n)) = AreTooLong compiled manner n
+StopsPrinted compiled manner (refused.Failure failure.Memory) = Unit {0}
 StopsPrinted compiled manner _ = ⊥
+
+-- memory ran out
+abbrev pub IsWant : Refusal → Type 0
+IsWant (refused.Failure failure.Memory) = Unit {0}
+IsWant _ = ⊥
 
 -- the number of slots, given or computed
 abbrev pub IsChosen : Compiled → Option ℕ → ℕ → Type 0
@@ -142,36 +143,46 @@ abbrev pub StopsChosen : Compiled → Option ℕ → Refusal → Type 0
 StopsChosen compiled (Some given) refusal = ⊥
 StopsChosen compiled None refusal = StopsComputed compiled refusal
 
-module _ (compiled : Compiled) (given : Option ℕ) (style : Style) (checks : Checks) where
-  abbrev pub manner_at : ℕ → Manner
-  manner_at slots = record { slots = slots; style = style; checks = checks }
-
-  -- the number of slots and the texts
-  pub record IsMade (made : Made) : Type 0 where
-    pub chosen : IsChosen compiled given made.slots
-    pub whole : AreWhole compiled (manner_at made.slots) (texts_of made.texts)
-
-  abbrev pub StopsMade : Refusal → Type 0
-  StopsMade refusal = StopsChosen compiled given refusal ⊎ ((slots : ℕ) × IsChosen compiled given slots × StopsPrinted compiled (manner_at slots) refusal)
-
 -- a put that was refused
 abbrev pub StopsPut : Word → FilesState → FilesState → Refusal → Type 0
-StopsPut name old new (refused.CannotWrite word) = (word.now ≡ name) × PutFails old new name
-StopsPut name old new refused.NoMemory = new ≡ old
+StopsPut name old new (refused.Failure (failure.Writing word)) = (word.now ≡ name) × PutFails old new name
+StopsPut name old new (refused.Failure failure.Memory) = new ≡ old
 StopsPut name old new _ = ⊥
+
+-- puts of these texts, one of which was refused
+abbrev pub StopsPuts : List Text → FilesState → FilesState → Refusal → Type 0
+StopsPuts texts old new (refused.Failure (failure.Writing word)) = FailsToPut texts word.now old new
+StopsPuts texts old new (refused.Failure failure.Memory) = StandInPart texts old new
+StopsPuts texts old new _ = ⊥
 
 -- a text on standard output that was refused
 abbrev pub StopsPrint : List ℕ → SinkState → SinkState → Refusal → Type 0
-StopsPrint text old new refused.CannotWriteOutput = TakesThenFails text old new
-StopsPrint text old new refused.NoMemory = TakesThenStarves text old new
+StopsPrint text old new (refused.Failure failure.Telling) = TakesThenFails text old new
+StopsPrint text old new (refused.Failure failure.Memory) = TakesThenStarves text old new
 StopsPrint text old new _ = ⊥
 
--- the writing of these texts that was refused
-abbrev pub StopsDelivery : Names → ℕ → Texts → FilesState → FilesState → SinkState → SinkState → Refusal → Type 0
-StopsDelivery names slots texts old new out out' (refused.CannotWrite word) = LeavesUnwritten names texts word.now old new × (out' ≡ out)
-StopsDelivery names slots texts old new out out' refused.CannotWriteOutput = BothStand names texts old new × TakesThenFails (slots_line slots) out out'
-StopsDelivery names slots texts old new out out' refused.NoMemory =
-    ((new ≡ old) × (out' ≡ out))
-    ⊎ (FirstStands names texts old new × (out' ≡ out))
-    ⊎ (BothStand names texts old new × TakesThenStarves (slots_line slots) out out')
-StopsDelivery names slots texts old new out out' _ = ⊥
+-- an output, a part of which was refused
+abbrev pub StopsDelivery : Output → FilesState → FilesState → SinkState → SinkState → Refusal → Type 0
+StopsDelivery output old new out out' (refused.Failure (failure.Writing word)) = FailsToPut output.texts word.now old new × (out' ≡ out)
+StopsDelivery output old new out out' (refused.Failure failure.Telling) = StandsUpTo TakesThenFails output old new out out'
+StopsDelivery output old new out out' (refused.Failure failure.Memory) =
+    (StandInPart output.texts old new × (out' ≡ out)) ⊎ StandsUpTo TakesThenStarves output old new out out'
+StopsDelivery output old new out out' _ = ⊥
+
+-- a request that gives no output
+abbrev pub StopsOutput : Request → FilesState → FilesState → Refusal → Type 0
+StopsOutput request old new (refused.Failure (failure.Reading word)) = IsWithin request × FailsToRead old (inputs_of request) new word.now
+StopsOutput request old new (refused.Failure failure.Memory) = IsWithin request × (new ≡ old)
+StopsOutput request old new (refused.Failure _) = ⊥
+StopsOutput request old new refusal = IsAnswer request old (refuses refusal) × (new ≡ old)
+
+-- the refusal for a fault with this code at this place
+abbrev pub IsRefusalOf : Place → ℕ → Refusal → Type 0
+IsRefusalOf place code (refused.Fault at other) = (at ≡ place) × (other ≡ code) × IsNoLimit code
+IsRefusalOf place code (refused.Limit (limit.Text counted at)) = (at ≡ place) × (code ≡ limit_code counted)
+IsRefusalOf place code _ = ⊥
+
+-- what is asked for keeps the rules of words: a numeral is one, and the outputs of a translation are apart
+abbrev pub IsWellAsked : Asked → Type 0
+IsWellAsked (asked.Translation t) = IfSome (translation_of t).numeral IsNumeral × AreApart (translation_of t).names
+IsWellAsked _ = Unit {0}

@@ -1,6 +1,7 @@
 -- The two printed texts of a translation: what they are, and when they are too long.
 -- Source: this project's.
 use Rattle.std.specs.Prelude.{ℕ, ◌≡◌, ◌<◌, ◌≤◌, ◌⊎◌, List, length}
+use Rattle.htn_base.specs.Limits.{longest_output}
 use Rattle.plan_model.specs.declared.values.Hddl.{Hddl}
 use Rattle.plan_model.specs.declared.values.Compiled.{Compiled}
 use Rattle.plan_model.specs.declared.values.Pddl.{Pddl}
@@ -20,15 +21,11 @@ pub record Texts : Type 0 where
 abbrev pub texts_of : Printed → Texts
 texts_of printed = record { domain = printed.domain; problem = printed.problem }
 
--- the greatest length of a printed text, in bytes
-abbrev pub longest : ℕ
-longest = 268435456
-
 -- the first of two texts that is too long; n is its length
 abbrev pub IsFirstTooLong : (domain problem : List ℕ) (n : ℕ) → Type 0
 IsFirstTooLong domain problem n =
-    ((longest < length domain) × (n ≡ capped (length domain)))
-    ⊎ ((length domain ≤ longest) × (longest < length problem) × (n ≡ capped (length problem)))
+    ((longest_output < length domain) × (n ≡ capped (length domain)))
+    ⊎ ((length domain ≤ longest_output) × (longest_output < length problem) × (n ≡ capped (length problem)))
 
 -- the texts are those of a value that is printed for the problem, of which this is the compiled value
 pub record AreTranslated (read : Hddl) (compiled : Compiled) (manner : Manner) (texts : Texts) : Type 0 where
@@ -37,8 +34,8 @@ pub record AreTranslated (read : Hddl) (compiled : Compiled) (manner : Manner) (
   pub words : HasEncodedWords compiled manner.slots value.names
   pub domain_is : texts.domain ≡ domain_text value
   pub problem_is : texts.problem ≡ problem_text value
-  pub domain_fits : length texts.domain ≤ longest
-  pub problem_fits : length texts.problem ≤ longest
+  pub domain_fits : length texts.domain ≤ longest_output
+  pub problem_fits : length texts.problem ≤ longest_output
 
 -- there is an encoded value of the problem that has all its words, and of each such value the first text that is too long has this length
 pub record AreTooLong (compiled : Compiled) (manner : Manner) (n : ℕ) : Type 0 where

@@ -1,45 +1,79 @@
-ghost use Rattle.std.specs.Prelude.{◌<◌, ◌^◌, IfErr, OnOk};
+ghost use Rattle.std.specs.Prelude.{◌≤◌, ◌<◌, ◌^◌, ◌≡◌, [], ◌∷◌, length, IfOk, IfErr};
+ghost use Rattle.htn_base.specs.Limits.{longest_input};
 ghost use Rattle.outside_io.specs.Seen.{Seen};
-ghost use Rattle.outside_io.specs.command_words.Words as words;
-ghost use Rattle.htn_cli.specs.Ending.{Achieves};
-ghost use Rattle.htn_cli.specs.Left.{Leaves, bound_line};
-ghost use Rattle.htn_cli.specs.Sent.{TakesWhole};
-ghost use Rattle.htn_cli.specs.Stops.{StopsPrint};
+ghost use Rattle.command_words.specs.Words as words;
+ghost use Rattle.htn_cli.specs.Answer.{gives, told_alone};
+ghost use Rattle.htn_cli.specs.Bounding.{GivesBound};
+ghost use Rattle.htn_cli.specs.Lines.{bound_line};
+ghost use Rattle.htn_cli.specs.Made.{GivesOutput, NamesDiffer, output_of};
+ghost use Rattle.htn_cli.specs.Calling.{PassesInputs, StopsInputs};
+ghost use Rattle.htn_cli.specs.Stops.{IsWant, StopsOutput, StopsTexts};
 
-use crate::problem::{bound_of, problem_from};
+use crate::output::{Output, bound_told};
+use crate::problem::{bound_of, compiled_from};
+use crate::reading::read_two;
 use crate::refusal::Refusal;
-use crate::telling::tell_bound;
-use outside_io::command_words::Bounding;
-use outside_io::{Files, Sink, WriteError};
+use command_words::Bounding;
+use outside_io::Files;
 use std::alloc::Global;
 
-/// Prints the bound that is asked for.
-pub(crate) fn print_bound<'a, F: Files, O: Sink>(
+/// What is told of a bound.
+pub(crate) fn bounding<'a, F: Files>(
     alloc: Global,
     asked: &Bounding<'a>,
     files: &mut F,
-    out: &mut O,
-) -> Result<(), Refusal<'a>>
-    ensures done { OnOk result (Achieves
-        (F.state files.old) (F.state files.new) (O.state out.old) (O.state out.new)
-        (words.to_bound (words.bound_of asked.now))) }
-    ensures refused { IfErr result (Leaves (words.to_bound (words.bound_of asked.now))
-        (F.state files.old) (F.state files.new) (O.state out.old) (O.state out.new)) }
+) -> Result<Output<'a>, Refusal<'a>>
+    ensures given { IfOk result (Seen F.state
+        (GivesOutput (words.to_bound (words.bound_of asked.now))) files.old files.new) }
+    ensures refused { IfErr result (Seen F.state
+        (StopsOutput (words.to_bound (words.bound_of asked.now))) files.old files.new) }
+    ensures passed { IfOk result (λ made. Seen F.passed (PassesInputs (words.to_bound (words.bound_of asked.now)))
+        files.old files.new (gives (output_of made))) }
+    ensures stopped { IfErr result (Seen F.passed
+        (StopsInputs (words.to_bound (words.bound_of asked.now))) files.old files.new) }
 {
-    let compiled = problem_from(alloc, files, asked.d, asked.p, &asked.checks)?;
-    let bound = bound_of(alloc, &compiled);
-    drop(compiled);
-    print(out, bound?)
+    let sources = read_two(alloc, files, asked.d, asked.p)?;
+    let output = bounded(
+        alloc,
+        asked,
+        sources.domain.as_slice(),
+        sources.problem.as_slice(),
+    );
+    drop(sources);
+    output
 }
 
-fn print<'a, O: Sink>(out: &mut O, bound: u128) -> Result<(), Refusal<'a>>
-    ensures small { bound < 2 ^ 128 }
-    ensures written { OnOk result (Seen O.state (TakesWhole (bound_line bound)) out.old out.new) }
-    ensures refused { IfErr result (Seen O.state (StopsPrint (bound_line bound)) out.old out.new) }
+/// What is told of the bound of the problem that two texts spell.
+fn bounded<'a>(
+    alloc: Global,
+    asked: &Bounding<'a>,
+    domain: &[u8],
+    problem: &[u8],
+) -> Result<Output<'a>, Refusal<'a>>
+    requires domain_short { length domain.now ≤ longest_input }
+    requires problem_short { length problem.now ≤ longest_input }
+    ensures output { IfOk result (λ made. GivesBound
+        (words.bound_of asked.now) domain.now problem.now (output_of made)) }
+    ensures differ { IfOk result NamesDiffer }
+    ensures refused { IfErr result (StopsTexts
+        (words.to_bound (words.bound_of asked.now)) (domain.now ∷ problem.now ∷ [])) }
 {
-    match tell_bound(out, bound) {
-        Ok(()) => Ok(()),
-        Err(WriteError::Failed) => Err(Refusal::CannotWriteOutput),
-        Err(WriteError::Memory) => Err(Refusal::NoMemory),
-    }
+    let compiled = compiled_from(alloc, domain, problem, &asked.checks, asked.d, asked.p)?;
+    let bound = bound_of(alloc, &compiled);
+    drop(compiled);
+    output_with(alloc, bound?)
+}
+
+/// The line of a bound alone.
+fn output_with<'a>(alloc: Global, bound: u128) -> Result<Output<'a>, Refusal<'a>>
+    ensures small { bound < 2 ^ 128 }
+    ensures output { IfOk result (λ made. output_of made ≡ told_alone (bound_line bound)) }
+    ensures differ { IfOk result NamesDiffer }
+    ensures refused { IfErr result IsWant }
+{
+    let told = bound_told(alloc, bound)?;
+    Ok(Output {
+        written: None,
+        told,
+    })
 }

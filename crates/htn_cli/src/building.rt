@@ -6,13 +6,11 @@ ghost use Rattle.htn_cli.specs.Stops.{StopsPrinted};
 ghost use Rattle.htn_cli.specs.Printing.{AreWhole};
 
 use crate::manner::Manner;
-use crate::refusal::Refusal;
+use crate::refusal::{Failure, Limit, Refusal};
+use htn_base::limits::LONGEST_OUTPUT;
 use plan_model::Compiled;
 use problem_texts::{Printed, Texts, texts_of};
 use std::alloc::Global;
-
-/// The greatest length of a printed text, in bytes.
-const LONGEST: u64 = 268_435_456;
 
 /// The printed texts of a compiled problem, if neither is too long.
 pub(crate) fn printed<'a>(
@@ -25,9 +23,9 @@ pub(crate) fn printed<'a>(
     ensures whole { IfOk result (λ texts. AreWhole compiled.now manner.now (texts_of texts)) }
     ensures refused { IfErr result (StopsPrinted compiled.now manner.now) }
 {
-    match texts_of(alloc, compiled, manner.slots, &manner.style, LONGEST) {
+    match texts_of(alloc, compiled, manner.slots, &manner.style, LONGEST_OUTPUT) {
         Ok(Printed::Whole(texts)) => Ok(texts),
-        Ok(Printed::TooLong(size)) => Err(Refusal::OutputLimit(size)),
-        Err(_) => Err(Refusal::NoMemory),
+        Ok(Printed::TooLong(size)) => Err(Refusal::Limit(Limit::Output(size))),
+        Err(_) => Err(Refusal::Failure(Failure::Memory)),
     }
 }

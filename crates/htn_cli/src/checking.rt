@@ -1,4 +1,5 @@
 ghost use Rattle.std.specs.Prelude.{◌≤◌, ◌<◌, ◌-◌, ◌^◌, [], length, IfOk, IfErr};
+ghost use Rattle.htn_base.specs.Limits.{longest_input};
 ghost use Rattle.ground_state.specs.Runs.{IsRunnable, HasTaken};
 ghost use Rattle.plan_text.specs.Plans.{RefusesPlan};
 ghost use Rattle.htn_cli.specs.Checks.{IsChecked, Judges};
@@ -22,7 +23,7 @@ pub fn check(
     most: u32,
 ) -> Result<Checked, ReadError>
     requires runnable { IsRunnable p.now }
-    requires short { length text.now ≤ 16777216 }
+    requires short { length text.now ≤ longest_input }
     requires few { most < 2 ^ 32 - 1 }
     ensures checked { IfOk result (IsChecked p.now text.now most) }
     ensures refused { IfErr result (RefusesPlan file text.now) }

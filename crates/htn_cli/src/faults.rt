@@ -1,5 +1,8 @@
 ghost use Rattle.std.specs.Prelude.{◌≡◌, MatchOption};
-ghost use Rattle.htn_cli.specs.Faults.{IsNoLimit, limit_code, name_of};
+ghost use Rattle.htn_cli.specs.Faults.{IsNoLimit, limit_code};
+ghost use Rattle.htn_cli.specs.Stops.{IsRefusalOf};
+
+use crate::refusal::{Limit, Refusal};
 
 /// A place in a text: the word of its file, and the offset in bytes from 0.
 #[derive(Clone, Copy)]
@@ -20,7 +23,7 @@ pub enum Counted {
 }
 
 /// What is counted, where a fault with this code is a limit.
-pub(crate) fn limit_of(code: u16) -> Option<Counted>
+fn limit_of(code: u16) -> Option<Counted>
     ensures { MatchOption result (IsNoLimit code) (λ counted. code ≡ limit_code counted) }
 {
     match code {
@@ -31,12 +34,12 @@ pub(crate) fn limit_of(code: u16) -> Option<Counted>
     }
 }
 
-/// Of the words of two files the one of the file with this number.
-pub(crate) fn name_of<'a>(file: u8, domain: &'a str, problem: &'a str) -> &'a str
-    ensures { result.now ≡ name_of domain.now problem.now file }
+/// The refusal of a text with this fault at this place.
+pub(crate) fn refusal_for<'a>(place: Place<'a>, code: u16) -> Refusal<'a>
+    ensures { IsRefusalOf place.entry code result }
 {
-    match file {
-        0 => domain,
-        _ => problem,
+    match limit_of(code) {
+        Some(counted) => Refusal::Limit(Limit::Text(counted, place)),
+        None => Refusal::Fault(place, code),
     }
 }

@@ -1,18 +1,23 @@
 //! What the program does: it takes its words, does what they ask over files and streams that may be any, and answers with a status.
 //!
-//! Stands on all crates below. The contract that carries what is promised to a user is that of `run`, which the program calls. Below it
-//! `check` says of a text whether it spells a plan of a PDDL value; `validate` asks it.
+//! Stands on all crates below. The contract that carries what is promised to a user is that of `run`, which `ending` calls over the real
+//! files and streams. A command is a function of the texts of its inputs, which answers a refusal or an output; one function puts and
+//! tells any output. `check` says of a text whether it spells a plan of a PDDL value; `validate` asks it.
 #![tactic(auto)]
 
 mod bounding;
 mod building;
 mod checked;
 mod checking;
+mod delivery;
 mod faults;
 mod laws;
 mod manner;
+mod output;
 mod problem;
+mod process;
 mod program;
+mod reading;
 mod refusal;
 mod sending;
 mod slots;
@@ -23,7 +28,8 @@ mod validation;
 
 pub use checked::Checked;
 pub use checking::check;
+pub use command_words::{Command, command};
 pub use laws::{one_answer, some_answer};
-pub use outside_io::command_words::{Command, command};
+pub use process::ending;
 pub use program::run;
 pub use status::Status;

@@ -1,20 +1,32 @@
-ghost use Rattle.std.specs.Prelude.{ℕ, ◌≡◌, ◌≢◌, ◌↔◌, ◌⊎◌, ◌<◌, ◌≤◌, ◌^◌, IfErr, OnOk};
+ghost use Rattle.std.specs.Prelude.{ℕ, ◌≡◌, ◌≢◌, ◌↔◌, ◌⊎◌, ◌<◌, ◌≤◌, ◌^◌, IfOk, IfErr, OnOk};
+ghost use Rattle.htn_base.specs.Limits.{most_slots};
 ghost use Rattle.outside_io.specs.Seen.{Seen};
 ghost use Rattle.outside_io.specs.Files.{GetHasFailed, PutHasFailed};
 ghost use Rattle.outside_io.specs.Sink.{WriteHasFailed};
-ghost use Rattle.outside_io.specs.command_words.Names.{words_of};
-ghost use Rattle.outside_io.specs.command_words.Bounds.{most_slots};
-ghost use Rattle.outside_io.specs.command_words.Words.{AreOfAForm};
-ghost use Rattle.htn_cli.specs.Ending.{AskForBound, AskForSlots, AskForValidation, Ends, IsAnswered, IsBeforePuts, IsDone, IsOfAnAnswer, IsRefused, IsRefusedFor, IsUntouched};
-ghost use Rattle.htn_cli.specs.Promise.{HasBound, HasFinding, HasHeadline, HasPlan};
+ghost use Rattle.command_words.specs.Names.{words_of};
+ghost use Rattle.command_words.specs.Words.{AreOfAForm, request_of};
+ghost use Rattle.htn_cli.specs.Ending.{Achieves, AskForNoFile, AskForSlots, Ends, IsAnswered, IsBeforePuts};
+ghost use Rattle.htn_cli.specs.Ending.{IsDone, IsOfAnAnswer, IsRefused, IsRefusedFor, IsUntouched};
+ghost use Rattle.htn_cli.specs.Left.{Leaves};
+ghost use Rattle.htn_cli.specs.Answer.{gives};
+ghost use Rattle.htn_cli.specs.Calling.{PassesInputs, PassesRequest, StopsInputs, StopsRequest};
+ghost use Rattle.htn_cli.specs.Made.{GivesOutput, output_of};
+ghost use Rattle.htn_cli.specs.Passing.{CallsAre, CallsBefore, PassesDone, PassesFinding, PassesRefused};
+ghost use Rattle.htn_cli.specs.Stops.{IsWellAsked, StopsOutput};
+ghost use Rattle.htn_cli.specs.promise.Headline.{HasHeadline};
+ghost use Rattle.htn_cli.specs.promise.Bound.{HasBound};
+ghost use Rattle.htn_cli.specs.promise.Plan.{HasPlan};
+ghost use Rattle.htn_cli.specs.promise.Finding.{HasFinding};
 
-use crate::bounding::print_bound;
-use crate::refusal::Refusal;
+use crate::bounding::bounding;
+use crate::delivery::deliver;
+use crate::output::Output;
+use crate::refusal::{Limit, Refusal};
 use crate::status::Status;
 use crate::telling::tell;
-use crate::translation::translate;
-use crate::validation::validate;
-use outside_io::command_words::{Asked, asked};
+use crate::translation::translation;
+use crate::validation::validation;
+use command_words::{Asked, asked};
 use outside_io::{Files, Sink};
 use std::alloc::Global;
 
@@ -45,18 +57,26 @@ pub fn run<F: Files, O: Sink, E: Sink>(
     ensures headline { result ≡ Status.Done → HasHeadline (words_of words.now)
         (F.state files.old) (F.state files.new) (O.state out.old) (O.state out.new) }
     ensures bound { result ≡ Status.Done → HasBound (words_of words.now)
-        (F.state files.old) (F.state files.new) (O.state out.old) (O.state out.new) }
+        (F.state files.old) (O.state out.old) (O.state out.new) }
     ensures plan { result ≡ Status.Done → HasPlan (words_of words.now)
-        (F.state files.old) (F.state files.new) (O.state out.old) (O.state out.new) }
+        (F.state files.old) (O.state out.old) (O.state out.new) }
     ensures finding { result ≡ Status.Finding → HasFinding (words_of words.now)
-        (F.state files.old) (F.state files.new) (E.state err.old) (E.state err.new) }
+        (F.state files.old) (E.state err.old) (E.state err.new) }
+
+    // And it is true of the bytes that passed between the run and its files: the gets and the puts that
+    // it made are these, in this order.
+    ensures passed { result ≡ Status.Done → PassesDone (words_of words.now)
+        (CallsAre (F.passed files.old) (F.passed files.new)) (O.state out.old) (O.state out.new) }
+    ensures stopped { IsBeforePuts result → PassesRefused (words_of words.now)
+        (CallsAre (F.passed files.old) (F.passed files.new)) result
+        (E.state err.old) (E.state err.new) }
+    ensures found { result ≡ Status.Finding → PassesFinding (words_of words.now)
+        (CallsAre (F.passed files.old) (F.passed files.new)) (E.state err.old) (E.state err.new) }
 
     ensures quiet { result ≡ Status.Done → E.state err.new ≡ E.state err.old }
     ensures untouched { IsBeforePuts result →
         IsUntouched (F.state files.old) (F.state files.new) (O.state out.old) (O.state out.new) }
-    ensures bound_reads { AskForBound (words_of words.now) →
-        (F.state files.new).held ≡ (F.state files.old).held }
-    ensures validate_reads { AskForValidation (words_of words.now) →
+    ensures inputs_stay { AskForNoFile (words_of words.now) →
         (F.state files.new).held ≡ (F.state files.old).held }
     ensures words { (result ≡ Status.Words) ↔ (AreOfAForm (words_of words.now) → ⊥) }
 
@@ -64,11 +84,11 @@ pub fn run<F: Files, O: Sink, E: Sink>(
     // takes no memory.
     ensures past_all { (n : ℕ) → AskForSlots (words_of words.now) n → 2 ^ 128 ≤ n → IsRefusedFor
         (F.state files.old) (F.state files.new) (O.state out.old) (O.state out.new)
-        Refusal.BoundLimit result (E.state err.old) (E.state err.new) }
+        (Refusal.Limit Limit.Bound) result (E.state err.old) (E.state err.new) }
     ensures past_slots { (n : ℕ) → AskForSlots (words_of words.now) n →
         most_slots < n → n < 2 ^ 128 → IsRefusedFor
         (F.state files.old) (F.state files.new) (O.state out.old) (O.state out.new)
-        (Refusal.SlotsLimit n) result (E.state err.old) (E.state err.new) }
+        (Refusal.Limit (Limit.Slots n)) result (E.state err.old) (E.state err.new) }
 
     // A fault of reading or writing comes only where a count rose, and a count that rose shows.
     ensures read_fault { result ≡ Status.ReadFault → Seen F.state GetHasFailed files.old files.new }
@@ -103,11 +123,60 @@ fn act<'a, F: Files, O: Sink>(
         (F.state files.old) (F.state files.new) (O.state out.old) (O.state out.new)) }
     ensures refused { IfErr result (IsRefused (words_of words.now)
         (F.state files.old) (F.state files.new) (O.state out.old) (O.state out.new)) }
+    ensures passed { OnOk result (PassesDone (words_of words.now)
+        (CallsAre (F.passed files.old) (F.passed files.new)) (O.state out.old) (O.state out.new)) }
+    ensures stopped { IfErr result (CallsBefore (words_of words.now)
+        (CallsAre (F.passed files.old) (F.passed files.new))) }
 {
     match asked(words) {
         None => Err(Refusal::Words),
-        Some(Asked::Translation(asked)) => translate(alloc, &asked, files, out),
-        Some(Asked::Bound(asked)) => print_bound(alloc, &asked, files, out),
-        Some(Asked::Validation(asked)) => validate(alloc, &asked, files, out),
+        Some(asked) => perform(alloc, &asked, files, out),
+    }
+}
+
+/// Does what is asked for. The output is complete before the first put.
+fn perform<'a, F: Files, O: Sink>(
+    alloc: Global,
+    asked: &Asked<'a>,
+    files: &mut F,
+    out: &mut O,
+) -> Result<(), Refusal<'a>>
+    requires well { IsWellAsked asked.now }
+    ensures done { OnOk result (Achieves
+        (F.state files.old) (F.state files.new) (O.state out.old) (O.state out.new)
+        (request_of asked.now)) }
+    ensures refused { IfErr result (Leaves (request_of asked.now)
+        (F.state files.old) (F.state files.new) (O.state out.old) (O.state out.new)) }
+    ensures passed { OnOk result (PassesRequest (request_of asked.now)
+        (F.passed files.old) (F.passed files.new) (O.state out.old) (O.state out.new)) }
+    ensures stopped { IfErr result
+        (Seen F.passed (StopsRequest (request_of asked.now)) files.old files.new) }
+{
+    let output = output_for(alloc, asked, files)?;
+    let delivered = deliver(&output, files, out);
+    drop(output);
+    delivered
+}
+
+/// What is given for what is asked.
+fn output_for<'a, F: Files>(
+    alloc: Global,
+    asked: &Asked<'a>,
+    files: &mut F,
+) -> Result<Output<'a>, Refusal<'a>>
+    requires well { IsWellAsked asked.now }
+    ensures given { IfOk result (Seen F.state
+        (GivesOutput (request_of asked.now)) files.old files.new) }
+    ensures refused { IfErr result (Seen F.state
+        (StopsOutput (request_of asked.now)) files.old files.new) }
+    ensures passed { IfOk result (λ made. Seen F.passed (PassesInputs (request_of asked.now))
+        files.old files.new (gives (output_of made))) }
+    ensures stopped { IfErr result
+        (Seen F.passed (StopsInputs (request_of asked.now)) files.old files.new) }
+{
+    match asked {
+        Asked::Translation(asked) => translation(alloc, asked, files),
+        Asked::Bound(asked) => bounding(alloc, asked, files),
+        Asked::Validation(asked) => validation(alloc, asked, files),
     }
 }

@@ -1,6 +1,5 @@
 ghost use Rattle.std.specs.Prelude.{◌≡◌, ◌++◌, codes};
-ghost use Rattle.htn_cli.specs.Faults.{limit_word};
-ghost use Rattle.htn_cli.specs.Refusal.{cause_word, status_of, line_of};
+ghost use Rattle.htn_cli.specs.Refusal.{cause_word, counted_word, status_of, failure_status, line_of};
 ghost use Rattle.htn_cli.specs.Line.{line_text};
 
 use crate::faults::{Counted, Place};
@@ -12,51 +11,63 @@ use htn_base::Text;
 pub enum Refusal<'a> {
     /// The words are of no command's form.
     Words,
-    /// The number of slots, or the bound, is 2^128 or more.
-    BoundLimit,
-    /// There are more slots than are printed: so many.
-    SlotsLimit(u128),
-    /// An input text has too many bytes.
-    BytesLimit(&'a str),
     /// A text has a fault that is no limit: its place and its code.
-    TextFault(Place<'a>, u16),
-    /// A text has too much of what is counted: from this place on.
-    TextLimit(Counted, Place<'a>),
+    Fault(Place<'a>, u16),
+    /// There is too much of what is counted.
+    Limit(Limit<'a>),
+    /// The answer of the command is no.
+    Finding(Finding),
+    /// Something outside failed, or memory was refused.
+    Failure(Failure<'a>),
+}
+
+/// What is counted and past its limit.
+#[derive(Clone, Copy)]
+pub enum Limit<'a> {
+    /// The number of slots, or the bound, is 2^128 or more.
+    Bound,
+    /// There are more slots than are printed: so many.
+    Slots(u128),
+    /// An input text has too many bytes.
+    Bytes(&'a str),
+    /// A text has too much of what is counted in it: from this place on.
+    Text(Counted, Place<'a>),
     /// A plan has too many steps: so many.
-    StepsLimit(usize),
+    Steps(usize),
+    /// A printed text is too long: so many bytes.
+    Output(u64),
+}
+
+/// What a command found.
+#[derive(Drop)]
+pub enum Finding {
     /// The problem is not tail-recursive: the words of the named bad cycle, each behind a space.
     NotTailRecursive(Text),
     /// The list is no plan: the first step that fails, counted from 1, and its first cause.
     NotAPlan(u32, FailWhy),
-    /// A printed text is too long: so many bytes.
-    OutputLimit(u64),
-    /// A get failed.
-    CannotRead(&'a str),
-    /// A put failed.
-    CannotWrite(&'a str),
-    /// Standard output failed.
-    CannotWriteOutput,
+}
+
+/// What failed.
+#[derive(Clone, Copy)]
+pub enum Failure<'a> {
+    /// A get of this file.
+    Reading(&'a str),
+    /// A put of this file.
+    Writing(&'a str),
+    /// Standard output.
+    Telling,
     /// Memory was refused.
-    NoMemory,
+    Memory,
 }
 
 impl Drop for Refusal<'_> {
     fn drop(self) {
         match self {
             Refusal::Words => {}
-            Refusal::BoundLimit => {}
-            Refusal::SlotsLimit(_) => {}
-            Refusal::BytesLimit(_) => {}
-            Refusal::TextFault(_, _) => {}
-            Refusal::TextLimit(_, _) => {}
-            Refusal::StepsLimit(_) => {}
-            Refusal::NotTailRecursive(_) => {}
-            Refusal::NotAPlan(_, _) => {}
-            Refusal::OutputLimit(_) => {}
-            Refusal::CannotRead(_) => {}
-            Refusal::CannotWrite(_) => {}
-            Refusal::CannotWriteOutput => {}
-            Refusal::NoMemory => {}
+            Refusal::Fault(_, _) => {}
+            Refusal::Limit(_) => {}
+            Refusal::Finding(_) => {}
+            Refusal::Failure(_) => {}
         }
     }
 }
@@ -89,17 +100,10 @@ impl Refusal<'_> {
     {
         match self {
             Refusal::Words => Status::Words,
-            Refusal::BoundLimit
-            | Refusal::SlotsLimit(_)
-            | Refusal::BytesLimit(_)
-            | Refusal::TextLimit(_, _)
-            | Refusal::StepsLimit(_)
-            | Refusal::OutputLimit(_) => Status::Limit,
-            Refusal::TextFault(_, _) => Status::TextFault,
-            Refusal::NotTailRecursive(_) | Refusal::NotAPlan(_, _) => Status::Finding,
-            Refusal::CannotRead(_) => Status::ReadFault,
-            Refusal::CannotWrite(_) | Refusal::CannotWriteOutput => Status::WriteFault,
-            Refusal::NoMemory => Status::NoMemory,
+            Refusal::Fault(_, _) => Status::TextFault,
+            Refusal::Limit(_) => Status::Limit,
+            Refusal::Finding(_) => Status::Finding,
+            Refusal::Failure(failure) => failure.status(),
         }
     }
 
@@ -107,34 +111,35 @@ impl Refusal<'_> {
     pub(crate) fn line(&self) -> Line<'_>
         ensures { line_text result ≡ line_of self.now }
     {
-        let nothing = Middle::Words(b"");
+        match self {
+            Refusal::Words => Line {
+                before: "words refused\n",
+                middle: Middle::Words(b""),
+                after: "",
+            },
+            Refusal::Fault(place, code) => Line {
+                before: "",
+                middle: Middle::Fault(*place, *code),
+                after: "\n",
+            },
+            Refusal::Limit(limit) => limit.line(),
+            Refusal::Finding(finding) => finding.line(),
+            Refusal::Failure(failure) => failure.line(),
+        }
+    }
+}
+
+impl Limit<'_> {
+    fn line(&self) -> Line<'_>
+        ensures { line_text result ≡ line_of (Refusal.Limit self.now) }
+    {
         let (before, middle, after) = match self {
-            Refusal::Words => ("words refused\n", nothing, ""),
-            Refusal::BoundLimit => ("limit bound\n", nothing, ""),
-            Refusal::SlotsLimit(slots) => ("limit slots ", Middle::Number(*slots), "\n"),
-            Refusal::BytesLimit(name) => ("limit bytes ", Middle::Words(name.as_bytes()), "\n"),
-            Refusal::TextFault(place, code) => ("", Middle::Fault(*place, *code), "\n"),
-            Refusal::TextLimit(counted, place) => (
-                limit_start(*counted),
-                Middle::Place(*place),
-                "\n",
-            ),
-            Refusal::StepsLimit(steps) => ("limit steps ", Middle::Number(*steps as u128), "\n"),
-            Refusal::NotTailRecursive(words) => {
-                ("not tail-recursive:", Middle::Words(words.as_slice()), "\n")
-            }
-            Refusal::NotAPlan(step, why) => {
-                (
-                    "not a plan: step ",
-                    Middle::Number(*step as u128),
-                    failure_end(*why),
-                )
-            }
-            Refusal::OutputLimit(size) => ("limit output ", Middle::Number(*size as u128), "\n"),
-            Refusal::CannotRead(name) => ("cannot read ", Middle::Words(name.as_bytes()), "\n"),
-            Refusal::CannotWrite(name) => ("cannot write ", Middle::Words(name.as_bytes()), "\n"),
-            Refusal::CannotWriteOutput => ("cannot write standard output\n", nothing, ""),
-            Refusal::NoMemory => ("out of memory\n", nothing, ""),
+            Limit::Bound => ("limit bound\n", Middle::Words(b""), ""),
+            Limit::Slots(slots) => ("limit slots ", Middle::Number(*slots), "\n"),
+            Limit::Bytes(name) => ("limit bytes ", Middle::Words(name.as_bytes()), "\n"),
+            Limit::Text(counted, place) => (limit_start(*counted), Middle::Place(*place), "\n"),
+            Limit::Steps(steps) => ("limit steps ", Middle::Number(*steps as u128), "\n"),
+            Limit::Output(size) => ("limit output ", Middle::Number(*size as u128), "\n"),
         };
         Line {
             before,
@@ -144,14 +149,38 @@ impl Refusal<'_> {
     }
 }
 
-/// The line of a limit up to the place.
+/// The line of a limit in a text up to the place.
 fn limit_start(counted: Counted) -> &'static str
-    ensures { result.now ≡ codes "limit " ++ limit_word counted ++ codes " " }
+    ensures { result.now ≡ codes "limit " ++ counted_word counted ++ codes " " }
 {
     match counted {
         Counted::Depth => "limit depth ",
         Counted::Subtasks => "limit subtasks ",
         Counted::Types => "limit types ",
+    }
+}
+
+impl Finding {
+    fn line(&self) -> Line<'_>
+        ensures { line_text result ≡ line_of (Refusal.Finding self.now) }
+    {
+        let (before, middle, after) = match self {
+            Finding::NotTailRecursive(words) => {
+                ("not tail-recursive:", Middle::Words(words.as_slice()), "\n")
+            }
+            Finding::NotAPlan(step, why) => {
+                (
+                    "not a plan: step ",
+                    Middle::Number(*step as u128),
+                    failure_end(*why),
+                )
+            }
+        };
+        Line {
+            before,
+            middle,
+            after,
+        }
     }
 }
 
@@ -164,5 +193,33 @@ fn failure_end(why: FailWhy) -> &'static str
         FailWhy::Arguments => " Arguments\n",
         FailWhy::Condition => " Condition\n",
         FailWhy::GoalFalse => " GoalFalse\n",
+    }
+}
+
+impl Failure<'_> {
+    fn status(&self) -> Status
+        ensures { result ≡ failure_status self.now }
+    {
+        match self {
+            Failure::Reading(_) => Status::ReadFault,
+            Failure::Writing(_) | Failure::Telling => Status::WriteFault,
+            Failure::Memory => Status::NoMemory,
+        }
+    }
+
+    fn line(&self) -> Line<'_>
+        ensures { line_text result ≡ line_of (Refusal.Failure self.now) }
+    {
+        let (before, middle, after) = match self {
+            Failure::Reading(name) => ("cannot read ", Middle::Words(name.as_bytes()), "\n"),
+            Failure::Writing(name) => ("cannot write ", Middle::Words(name.as_bytes()), "\n"),
+            Failure::Telling => ("cannot write standard output\n", Middle::Words(b""), ""),
+            Failure::Memory => ("out of memory\n", Middle::Words(b""), ""),
+        };
+        Line {
+            before,
+            middle,
+            after,
+        }
     }
 }

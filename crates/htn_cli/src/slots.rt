@@ -1,12 +1,13 @@
 ghost use Rattle.std.specs.Prelude.{ℕ, IfSome, IfOk, IfErr};
 ghost use Rattle.std.specs.Option.{option_copied};
-ghost use Rattle.outside_io.specs.command_words.Bounds.{ComesTo, IsNumeral};
+ghost use Rattle.command_words.specs.Bounds.{ComesTo, IsNumeral};
 ghost use Rattle.bound_calc.specs.Soundly.{IsSoundlyCompiled};
-ghost use Rattle.htn_cli.specs.Stops.{AreSlots, IsChosen, IsComputed, IsGiven, StopsChosen, StopsComputed, StopsGiven, StopsSlots};
+ghost use Rattle.htn_cli.specs.Slots.{RefusesSlots};
+ghost use Rattle.htn_cli.specs.Stops.{AreSlots, IsChosen, IsComputed, IsGiven, StopsChosen, StopsComputed, StopsGiven};
 
 use crate::problem::bound_of;
-use crate::refusal::Refusal;
-use outside_io::command_words::{Bound, comes_to};
+use crate::refusal::{Limit, Refusal};
+use command_words::{Bound, comes_to};
 use plan_model::Compiled;
 use std::alloc::Global;
 
@@ -18,7 +19,7 @@ pub(crate) fn given_slots<'a>(numeral: Option<&'a str>) -> Result<Option<u32>, R
 {
     match numeral {
         Some(numeral) => {
-            let slots = slots_in(outside_io::command_words::bound_of(numeral))?;
+            let slots = slots_in(command_words::bound_of(numeral))?;
             Ok(Some(slots))
         }
         None => Ok(None),
@@ -52,11 +53,11 @@ fn computed_slots<'a>(alloc: Global, compiled: &Compiled) -> Result<u32, Refusal
 
 fn slots_in<'a>(bound: Bound) -> Result<u32, Refusal<'a>>
     ensures slots { IfOk result (λ slots. (n : ℕ) → ComesTo n bound → AreSlots n slots) }
-    ensures refused { IfErr result (λ refusal. (n : ℕ) → ComesTo n bound → StopsSlots n refusal) }
+    ensures refused { IfErr result (λ refusal. (n : ℕ) → ComesTo n bound → RefusesSlots n refusal) }
 {
     match bound {
         Bound::Slots(slots) => Ok(slots),
-        Bound::TooMany(slots) => Err(Refusal::SlotsLimit(slots)),
-        Bound::PastAll => Err(Refusal::BoundLimit),
+        Bound::TooMany(slots) => Err(Refusal::Limit(Limit::Slots(slots))),
+        Bound::PastAll => Err(Refusal::Limit(Limit::Bound)),
     }
 }

@@ -3,7 +3,6 @@ ghost use Rattle.outside_io.specs.Seen.{Seen};
 ghost use Rattle.htn_cli.specs.Faults.{place_text, fault_text};
 ghost use Rattle.htn_cli.specs.Refusal.{line_of};
 ghost use Rattle.htn_cli.specs.Line.{line_text};
-ghost use Rattle.htn_cli.specs.Left.{bound_line, slots_line};
 ghost use Rattle.htn_cli.specs.Sent.{StopsAt, TakesWhole, Told};
 
 use crate::faults::Place;
@@ -19,24 +18,6 @@ pub(crate) fn tell<E: Sink>(err: &mut E, refusal: &Refusal<'_>)
 {
     let line = refusal.line();
     let _ = send_line(err, &line);
-}
-
-/// Writes the text of a number of slots.
-pub(crate) fn tell_slots<O: Sink>(out: &mut O, slots: u32) -> Result<(), WriteError>
-    ensures whole { OnOk result (Seen O.state (TakesWhole (slots_line slots)) out.old out.new) }
-    ensures part { IfErr result (Seen O.state (StopsAt (slots_line slots)) out.old out.new) }
-{
-    let mut buffer = Buffer::new();
-    send_parts(out, b"slots ", buffer.format(slots).as_bytes(), b"\n")
-}
-
-/// Writes the text of a bound.
-pub(crate) fn tell_bound<O: Sink>(out: &mut O, bound: u128) -> Result<(), WriteError>
-    ensures whole { OnOk result (Seen O.state (TakesWhole (bound_line bound)) out.old out.new) }
-    ensures part { IfErr result (Seen O.state (StopsAt (bound_line bound)) out.old out.new) }
-{
-    let mut buffer = Buffer::new();
-    send_two(out, buffer.format(bound).as_bytes(), b"\n")
 }
 
 fn send_line<E: Sink>(err: &mut E, line: &Line<'_>) -> Result<(), WriteError>

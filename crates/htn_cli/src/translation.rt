@@ -1,122 +1,132 @@
-ghost use Rattle.std.specs.Prelude.{◌≢◌, IfSome, IfOk, IfErr, OnOk};
-ghost use Rattle.outside_io.specs.Files.{PutGives};
+ghost use Rattle.std.specs.Prelude.{◌≢◌, ◌≤◌, [], ◌∷◌, length, IfSome, IfOk, IfErr};
+ghost use Rattle.htn_base.specs.Limits.{longest_input};
 ghost use Rattle.outside_io.specs.Seen.{Seen};
-ghost use Rattle.outside_io.specs.command_words.Names.{AreApart, names_of};
-ghost use Rattle.outside_io.specs.command_words.Bounds.{IsNumeral};
-ghost use Rattle.outside_io.specs.command_words.Words.{to_translate, translation_of};
+ghost use Rattle.command_words.specs.Names.{AreApart};
+ghost use Rattle.command_words.specs.Bounds.{IsNumeral};
+ghost use Rattle.command_words.specs.Words.{to_translate, translation_of};
 ghost use Rattle.bound_calc.specs.Soundly.{IsSoundlyCompiled};
-ghost use Rattle.htn_cli.specs.Ending.{Achieves};
-ghost use Rattle.htn_cli.specs.Left.{BothStand, Leaves, slots_line};
-ghost use Rattle.htn_cli.specs.Sent.{TakesWhole};
-ghost use Rattle.htn_cli.specs.Stops.{IsGiven, IsMade, StopsDelivery, StopsMade, StopsPrint, StopsPut};
-ghost use Rattle.htn_cli.specs.Texts.{texts_of};
+ghost use Rattle.htn_cli.specs.Answer.{gives};
+ghost use Rattle.htn_cli.specs.Made.{GivesOutput, IsMadeFor, IsMadeWith, NamesDiffer, StopsMadeFor, manner_of, output_of};
+ghost use Rattle.htn_cli.specs.Calling.{PassesInputs, StopsInputs};
+ghost use Rattle.htn_cli.specs.Stops.{IsGiven, StopsOutput, StopsPrinted, StopsTexts};
+ghost use Rattle.htn_cli.specs.Translation.{GivesTranslation};
 
 use crate::building::printed;
 use crate::manner::Manner;
-use crate::problem::problem_from;
+use crate::output::{Output, Written, slots_told};
+use crate::problem::compiled_from;
+use crate::reading::read_two;
 use crate::refusal::Refusal;
 use crate::slots::{given_slots, slots_for};
-use crate::telling::tell_slots;
-use outside_io::command_words::{Named, Translation};
-use outside_io::{Files, PutError, Sink, WriteError};
+use command_words::{Named, Translation};
+use outside_io::Files;
 use plan_model::Compiled;
-use problem_texts::Texts;
 use std::alloc::Global;
 
-/// Translates as it is asked for. Both texts are complete before the first put.
-pub(crate) fn translate<'a, F: Files, O: Sink>(
+/// What a translation gives.
+pub(crate) fn translation<'a, F: Files>(
     alloc: Global,
     asked: &Translation<'a>,
     files: &mut F,
-    out: &mut O,
-) -> Result<(), Refusal<'a>>
+) -> Result<Output<'a>, Refusal<'a>>
     requires numeral { IfSome (translation_of asked.now).numeral IsNumeral }
     requires apart { AreApart (translation_of asked.now).names }
-    ensures done { OnOk result (Achieves
-        (F.state files.old) (F.state files.new) (O.state out.old) (O.state out.new)
-        (to_translate (translation_of asked.now))) }
-    ensures refused { IfErr result (Leaves (to_translate (translation_of asked.now))
-        (F.state files.old) (F.state files.new) (O.state out.old) (O.state out.new)) }
+    ensures given { IfOk result (Seen F.state
+        (GivesOutput (to_translate (translation_of asked.now))) files.old files.new) }
+    ensures refused { IfErr result (Seen F.state
+        (StopsOutput (to_translate (translation_of asked.now))) files.old files.new) }
+    ensures passed { IfOk result (λ made. Seen F.passed (PassesInputs (to_translate (translation_of asked.now)))
+        files.old files.new (gives (output_of made))) }
+    ensures stopped { IfErr result (Seen F.passed
+        (StopsInputs (to_translate (translation_of asked.now))) files.old files.new) }
 {
     let given = given_slots(asked.numeral)?;
-    let compiled = problem_from(alloc, files, asked.names.d, asked.names.p, &asked.checks)?;
-    let made = made_of(alloc, &compiled, asked, given);
+    let sources = read_two(alloc, files, asked.names.d, asked.names.p)?;
+    let output = translated(
+        alloc,
+        asked,
+        given,
+        sources.domain.as_slice(),
+        sources.problem.as_slice(),
+    );
+    drop(sources);
+    output
+}
+
+/// What the translation of two texts gives.
+fn translated<'a>(
+    alloc: Global,
+    asked: &Translation<'a>,
+    given: Option<u32>,
+    domain: &[u8],
+    problem: &[u8],
+) -> Result<Output<'a>, Refusal<'a>>
+    requires domain_short { length domain.now ≤ longest_input }
+    requires problem_short { length problem.now ≤ longest_input }
+    requires given { IsGiven (translation_of asked.now).numeral given }
+    requires apart { asked.now.names.od.now ≢ asked.now.names.op.now }
+    ensures output { IfOk result (λ made. GivesTranslation
+        (translation_of asked.now) domain.now problem.now (output_of made)) }
+    ensures differ { IfOk result NamesDiffer }
+    ensures refused { IfErr result (StopsTexts
+        (to_translate (translation_of asked.now)) (domain.now ∷ problem.now ∷ [])) }
+{
+    let Named { d, p, .. } = asked.names;
+    let compiled = compiled_from(alloc, domain, problem, &asked.checks, d, p)?;
+    let output = output_for(alloc, &compiled, asked, given);
     drop(compiled);
-    let made = made?;
-    deliver(&asked.names, made.slots, &made.texts, files, out)
+    output
 }
 
-/// The two texts of a translation, and the number of their slots.
-struct Made {
-    slots: u32,
-    texts: Texts,
-}
-
-impl Drop for Made {
-    fn drop(self) {
-        let Made { slots: _, texts: _ } = self;
-    }
-}
-
-fn made_of<'a>(
+/// The texts of a compiled problem with the given number of slots, or with its bound.
+fn output_for<'a>(
     alloc: Global,
     compiled: &Compiled,
     asked: &Translation<'a>,
     given: Option<u32>,
-) -> Result<Made, Refusal<'a>>
+) -> Result<Output<'a>, Refusal<'a>>
     requires soundly { IsSoundlyCompiled compiled.now }
-    requires given { IsGiven (translation_of asked.now).numeral given }
-    ensures made { IfOk result (IsMade compiled.now given asked.now.style asked.now.checks) }
-    ensures refused { IfErr result (StopsMade compiled.now given asked.now.style asked.now.checks) }
+    requires apart { asked.now.names.od.now ≢ asked.now.names.op.now }
+    ensures output { IfOk result (IsMadeFor (translation_of asked.now) compiled.now given) }
+    ensures differ { IfOk result NamesDiffer }
+    ensures refused { IfErr result (StopsMadeFor (translation_of asked.now) compiled.now given) }
 {
     let slots = slots_for(alloc, compiled, given)?;
+    output_with(alloc, compiled, asked, slots)
+}
+
+/// The texts of a compiled problem with so many slots.
+fn output_with<'a>(
+    alloc: Global,
+    compiled: &Compiled,
+    asked: &Translation<'a>,
+    slots: u32,
+) -> Result<Output<'a>, Refusal<'a>>
+    requires soundly { IsSoundlyCompiled compiled.now }
+    requires apart { asked.now.names.od.now ≢ asked.now.names.op.now }
+    ensures output { IfOk result (IsMadeWith (translation_of asked.now) compiled.now slots) }
+    ensures differ { IfOk result NamesDiffer }
+    ensures refused { IfErr result (StopsPrinted compiled.now
+        (manner_of (translation_of asked.now) slots)) }
+{
     let manner = Manner {
         slots,
         style: asked.style,
         checks: asked.checks,
     };
     let texts = printed(alloc, compiled, &manner)?;
-    Ok(Made { slots, texts })
-}
-
-/// Writes the two outputs, and then the number of slots.
-fn deliver<'a, F: Files, O: Sink>(
-    names: &Named<'a>,
-    slots: u32,
-    texts: &Texts,
-    files: &mut F,
-    out: &mut O,
-) -> Result<(), Refusal<'a>>
-    requires { names.now.od.now ≢ names.now.op.now }
-    ensures stand { OnOk result (BothStand (names_of names.now) (texts_of texts.now)
-        (F.state files.old) (F.state files.new)) }
-    ensures told { OnOk result (Seen O.state (TakesWhole (slots_line slots)) out.old out.new) }
-    ensures refused { IfErr result (StopsDelivery (names_of names.now) slots (texts_of texts.now)
-        (F.state files.old) (F.state files.new) (O.state out.old) (O.state out.new)) }
-{
-    put(files, names.od, texts.domain.as_slice())?;
-    put(files, names.op, texts.problem.as_slice())?;
-    print(out, slots)
-}
-
-fn put<'a, F: Files>(files: &mut F, name: &'a str, text: &[u8]) -> Result<(), Refusal<'a>>
-    ensures written { OnOk result (Seen F.state PutGives files.old files.new name.now text.now) }
-    ensures refused { IfErr result (Seen F.state (StopsPut name.now) files.old files.new) }
-{
-    match files.put(name, text) {
-        Ok(()) => Ok(()),
-        Err(PutError::Failed) => Err(Refusal::CannotWrite(name)),
-        Err(PutError::Memory) => Err(Refusal::NoMemory),
-    }
-}
-
-fn print<'a, O: Sink>(out: &mut O, slots: u32) -> Result<(), Refusal<'a>>
-    ensures written { OnOk result (Seen O.state (TakesWhole (slots_line slots)) out.old out.new) }
-    ensures refused { IfErr result (Seen O.state (StopsPrint (slots_line slots)) out.old out.new) }
-{
-    match tell_slots(out, slots) {
-        Ok(()) => Ok(()),
-        Err(WriteError::Failed) => Err(Refusal::CannotWriteOutput),
-        Err(WriteError::Memory) => Err(Refusal::NoMemory),
+    match slots_told(alloc, slots) {
+        Ok(told) => Ok(Output {
+            written: Some(Written {
+                od: asked.names.od,
+                op: asked.names.op,
+                texts,
+            }),
+            told,
+        }),
+        Err(refusal) => {
+            drop(texts);
+            Err(refusal)
+        }
     }
 }

@@ -1,76 +1,78 @@
-ghost use Rattle.std.specs.Prelude.{ℕ, ◌≡◌, ◌<◌, ◌≤◌, List, length, slice_get, Some, IfErr, OnOk};
+ghost use Rattle.std.specs.Prelude.{◌≡◌, ◌<◌, ◌≤◌, [], ◌∷◌, length, slice_get, Some, OnOk, IfOk, IfErr};
+ghost use Rattle.htn_base.specs.Limits.{longest_input};
 ghost use Rattle.outside_io.specs.Seen.{Seen};
-ghost use Rattle.outside_io.specs.command_words.Words as words;
+ghost use Rattle.command_words.specs.Words as words;
 ghost use Rattle.text_values.specs.form_spellings.SoundPddl.{IsSoundClassical};
-ghost use Rattle.htn_cli.specs.Ending.{Achieves};
-ghost use Rattle.htn_cli.specs.Inputs.{longest_input};
-ghost use Rattle.htn_cli.specs.Left.{Leaves, valid_line};
-ghost use Rattle.htn_cli.specs.Sent.{TakesWhole};
-ghost use Rattle.htn_cli.specs.Stops.{GivesPlan, IsConfirmedFor, StopsFor, StopsPlan, StopsPrint, StopsTextsOf};
-ghost use Rattle.htn_cli.specs.Validation.{AreConfirmed, IsLeastOfThree, validation_inputs};
+ghost use Rattle.htn_cli.specs.Answer.{gives, told_alone};
+ghost use Rattle.htn_cli.specs.Lines.{valid_line};
+ghost use Rattle.htn_cli.specs.Made.{GivesOutput, NamesDiffer, output_of};
+ghost use Rattle.htn_cli.specs.Calling.{PassesInputs, StopsInputs};
+ghost use Rattle.htn_cli.specs.Stops.{IsConfirmedFor, IsWant, StopsFor, StopsOutput, StopsPlan};
+ghost use Rattle.htn_cli.specs.Validation.{AreConfirmed};
 
 use crate::checked::Checked;
 use crate::checking::check;
-use crate::faults::{Place, limit_of};
-use crate::problem::read;
-use crate::refusal::Refusal;
-use crate::sending::send;
+use crate::faults::{Place, refusal_for};
+use crate::output::{Output, valid_told};
+use crate::reading::{read, read_two};
+use crate::refusal::{Failure, Finding, Limit, Refusal};
+use command_words::Validation;
 use htn_base::Fault;
-use outside_io::command_words::Validation;
-use outside_io::{Files, Sink, WriteError};
+use htn_base::limits::MOST_STEPS;
+use outside_io::Files;
 use plan_model::Pddl;
 use std::alloc::Global;
 use text_forms::sexpr_text::ReadError;
 use text_values::pddl_of;
 
-/// The greatest number of steps of a plan.
-const MOST_STEPS: u32 = 1_000_000;
-
 /// The number of the plan's file among the three that are read.
 const PLAN_FILE: u8 = 2;
 
-/// Tells whether the list is a plan, as it is asked for.
-pub(crate) fn validate<'a, F: Files, O: Sink>(
+/// What is told of a list that is a plan.
+pub(crate) fn validation<'a, F: Files>(
     alloc: Global,
     asked: &Validation<'a>,
     files: &mut F,
-    out: &mut O,
-) -> Result<(), Refusal<'a>>
-    ensures done { OnOk result (Achieves
-        (F.state files.old) (F.state files.new) (O.state out.old) (O.state out.new)
-        (words.to_validate (words.validation_of asked.now))) }
-    ensures refused { IfErr result (Leaves (words.to_validate (words.validation_of asked.now))
-        (F.state files.old) (F.state files.new) (O.state out.old) (O.state out.new)) }
+) -> Result<Output<'a>, Refusal<'a>>
+    ensures given { IfOk result (Seen F.state
+        (GivesOutput (words.to_validate (words.validation_of asked.now))) files.old files.new) }
+    ensures refused { IfErr result (Seen F.state
+        (StopsOutput (words.to_validate (words.validation_of asked.now))) files.old files.new) }
+    ensures passed { IfOk result (λ made. Seen F.passed (PassesInputs (words.to_validate (words.validation_of asked.now)))
+        files.old files.new (gives (output_of made))) }
+    ensures stopped { IfErr result (Seen F.passed
+        (StopsInputs (words.to_validate (words.validation_of asked.now))) files.old files.new) }
 {
-    confirm(alloc, asked, files)?;
-    print(out)
-}
-
-/// Whether the three files hold two PDDL texts and a plan of them.
-fn confirm<'a, F: Files>(
-    alloc: Global,
-    asked: &Validation<'a>,
-    files: &mut F,
-) -> Result<(), Refusal<'a>>
-    ensures plan { OnOk result
-        (Seen F.state (GivesPlan (words.validation_of asked.now)) files.old files.new) }
-    ensures refused { IfErr result
-        (Seen F.state (StopsPlan (words.validation_of asked.now)) files.old files.new) }
-{
-    let domain = read(alloc, files, asked.pd)?;
-    let problem = read(alloc, files, asked.pp)?;
+    let sources = read_two(alloc, files, asked.pd, asked.pp)?;
     let plan = read(alloc, files, asked.plan)?;
-    confirm_texts(
+    let confirmed = confirm(
         alloc,
         asked,
-        domain.as_slice(),
-        problem.as_slice(),
+        sources.domain.as_slice(),
+        sources.problem.as_slice(),
         plan.as_slice(),
-    )
+    );
+    drop(sources);
+    drop(plan);
+    confirmed?;
+    valid(alloc)
+}
+
+/// The line of a plan alone.
+fn valid<'a>(alloc: Global) -> Result<Output<'a>, Refusal<'a>>
+    ensures output { IfOk result (λ made. output_of made ≡ told_alone valid_line) }
+    ensures differ { IfOk result NamesDiffer }
+    ensures refused { IfErr result IsWant }
+{
+    let told = valid_told(alloc)?;
+    Ok(Output {
+        written: None,
+        told,
+    })
 }
 
 /// Whether the third text spells a plan of the two others.
-fn confirm_texts<'a>(
+fn confirm<'a>(
     alloc: Global,
     asked: &Validation<'a>,
     domain: &[u8],
@@ -82,7 +84,7 @@ fn confirm_texts<'a>(
     requires plan_short { length plan.now ≤ longest_input }
     ensures plan { OnOk result (AreConfirmed domain.now problem.now plan.now) }
     ensures refused { IfErr result
-        (StopsTextsOf (validation_inputs (words.validation_of asked.now))
+        (StopsPlan (asked.now.pd.now ∷ asked.now.pp.now ∷ asked.now.plan.now ∷ [])
         domain.now problem.now plan.now) }
 {
     match pddl_of(alloc, domain, problem) {
@@ -91,8 +93,8 @@ fn confirm_texts<'a>(
             drop(value);
             confirmed
         }
-        Err(ReadError::Bad(fault)) => Err(refusal_for(fault, asked)),
-        Err(ReadError::Memory) => Err(Refusal::NoMemory),
+        Err(ReadError::Bad(fault)) => Err(refusal_for(place_of(fault, asked), fault.code)),
+        Err(ReadError::Memory) => Err(Refusal::Failure(Failure::Memory)),
     }
 }
 
@@ -107,53 +109,29 @@ fn confirm_plan<'a>(
     requires plan_short { length plan.now ≤ longest_input }
     ensures plan { OnOk result (IsConfirmedFor value.now plan.now) }
     ensures refused { IfErr result
-        (StopsFor (validation_inputs (words.validation_of asked.now)) value.now plan.now) }
+        (StopsFor (asked.now.pd.now ∷ asked.now.pp.now ∷ asked.now.plan.now ∷ [])
+        value.now plan.now) }
 {
     match check(alloc, value, plan, PLAN_FILE, MOST_STEPS) {
         Ok(Checked::Plan) => Ok(()),
-        Ok(Checked::TooMany(count)) => Err(Refusal::StepsLimit(count)),
-        Ok(Checked::Fails { step, why }) => Err(Refusal::NotAPlan(step, why)),
-        Err(ReadError::Bad(fault)) => Err(refusal_for(fault, asked)),
-        Err(ReadError::Memory) => Err(Refusal::NoMemory),
+        Ok(Checked::TooMany(count)) => Err(Refusal::Limit(Limit::Steps(count))),
+        Ok(Checked::Fails { step, why }) => Err(Refusal::Finding(Finding::NotAPlan(step, why))),
+        Err(ReadError::Bad(fault)) => Err(refusal_for(place_of(fault, asked), fault.code)),
+        Err(ReadError::Memory) => Err(Refusal::Failure(Failure::Memory)),
     }
 }
 
-/// The refusal of three texts for their least fault.
-fn refusal_for<'a>(fault: Fault, asked: &Validation<'a>) -> Refusal<'a>
-    ensures { (domain problem plan : List ℕ) →
-        IsLeastOfThree domain problem plan fault.file fault.code fault.at →
-        StopsTextsOf (validation_inputs (words.validation_of asked.now))
-        domain problem plan result }
+/// The place of a fault of three texts.
+fn place_of<'a>(fault: Fault, asked: &Validation<'a>) -> Place<'a>
+    ensures name { fault.file < 3 → slice_get
+        (asked.now.pd.now ∷ asked.now.pp.now ∷ asked.now.plan.now ∷ []) fault.file
+        ≡ Some result.name.now }
+    ensures at { result.at ≡ fault.at }
 {
-    let place = Place {
-        name: name_of(fault.file, asked),
-        at: fault.at,
-    };
-    match limit_of(fault.code) {
-        Some(counted) => Refusal::TextLimit(counted, place),
-        None => Refusal::TextFault(place, fault.code),
-    }
-}
-
-/// Of the words of the three files the one of the file with this number.
-fn name_of<'a>(file: u8, asked: &Validation<'a>) -> &'a str
-    ensures { file < 3 →
-        slice_get (validation_inputs (words.validation_of asked.now)) file ≡ Some result.now }
-{
-    match file {
+    let name = match fault.file {
         0 => asked.pd,
         1 => asked.pp,
         _ => asked.plan,
-    }
-}
-
-fn print<'a, O: Sink>(out: &mut O) -> Result<(), Refusal<'a>>
-    ensures written { OnOk result (Seen O.state (TakesWhole valid_line) out.old out.new) }
-    ensures refused { IfErr result (Seen O.state (StopsPrint valid_line) out.old out.new) }
-{
-    match send(out, b"valid\n") {
-        Ok(()) => Ok(()),
-        Err(WriteError::Failed) => Err(Refusal::CannotWriteOutput),
-        Err(WriteError::Memory) => Err(Refusal::NoMemory),
-    }
+    };
+    Place { name, at: fault.at }
 }

@@ -1,5 +1,5 @@
 -- A domain that was read stands in order, so binding may go through it; what it is refused for is its least fault.
-use Rattle.std.proofs.Common.{ℕ, ◌≤◌, List, length, Result, Ok, Err}
+use Rattle.std.proofs.Common.{ℕ, ◌+◌, ◌≤◌, List, length, Result, Ok, Err}
 use Rattle.std.specs.Prelude.{IfOk, IfErr, OnOk}
 use Rattle.htn_base.specs.Limits.{longest_input}
 use Rattle.htn_base.specs.Different.{AreDifferent}

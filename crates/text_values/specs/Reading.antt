@@ -1,6 +1,6 @@
 -- What each of two texts of a language comes to on the way to their value.
 -- Source: this project's.
-use Rattle.std.specs.Prelude.{ℕ, ◌≡◌, ◌≤◌, ◌⊎◌, List, Some, length}
+use Rattle.std.specs.Prelude.{ℕ, ◌≡◌, ◌+◌, ◌≤◌, ◌⊎◌, List, Some, length}
 use Rattle.htn_base.specs.Limits.{longest_input}
 use Rattle.htn_base.specs.Different.{AreDifferent}
 use Rattle.text_forms.specs.Faults.{fault, IsFaultless}

@@ -1,15 +1,30 @@
-use Rattle.std.proofs.Common.{◌≡◌, ap, rules, subst}
-use Rattle.outside_io.specs.command_words.Names.{words_of}
-use Rattle.outside_io.specs.command_words.Words.{Asks, translation_of, request_of}
-use Rattle.outside_io.specs.declared.command_words.asking.Asked.TheVariants as asked
-use Rattle.outside_io.proofs.command_words.Requests.{numeral_is}
+use Rattle.std.proofs.Common.{List}
+use Rattle.command_words.specs.Names.{Word, words_of}
+use Rattle.command_words.specs.Words.{Asks, translation_of, request_of}
+use Rattle.command_words.specs.declared.asking.Asked.{Asked}
+use Rattle.command_words.specs.declared.asking.Asked.TheVariants as asked
+use Rattle.command_words.proofs.Requests.{numeral_is}
+use Rattle.htn_cli.specs.Stops.{IsWellAsked}
+use Rattle.htn_cli.proofs.Results.{on_ok_too, if_err_too}
+use Rattle.htn_cli.proofs.CallsMade.{passes_done, calls_before}
 use Rattle.htn_cli.proofs.program.act.Goals as goal
 
-pub translate-requires-clause-numeral : goal.translate-requires-clause-numeral
-translate-requires-clause-numeral g c =
-    let is : c.in-Some-Translation.field-0 ≡ asked.Translation c.in-Some-Translation.asked = c.in-Some-Translation.field-0-is in
-    let asks = subst (Asks (words_of c.args.words.now)) (ap request_of is) c.in-Some-Translation.ensures.asked in
-    numeral_is (words_of c.args.words.now) (translation_of c.in-Some-Translation.asked) asks
+well_asked : (words : List Word) (a : Asked) → Asks words (request_of a) → IsWellAsked a
+well_asked words (asked.Translation t) asks = (numeral_is words (translation_of t) asks, asks.3.apart)
+well_asked words (asked.Bound b) asks = tt
+well_asked words (asked.Validation v) asks = tt
 
-pub returns-in-Some-Bound-clause-refused : goal.returns-in-Some-Bound-clause-refused
-returns-in-Some-Bound-clause-refused g c = search rules
+pub perform-requires : goal.perform-requires
+perform-requires g c = record { well = well_asked (words_of c.args.words.now) c.in-Some.asked c.in-Some.ensures.asked }
+
+pub returns-in-Some-clause-passed : goal.returns-in-Some-clause-passed
+returns-in-Some-clause-passed g c =
+    on_ok_too c.perform.result
+    (passes_done (words_of c.args.words.now) (g.F.Files.passed c.args.files.now) (g.F.Files.passed c.perform.new.files) (request_of c.in-Some.asked) c.in-Some.ensures.asked (g.O.Sink.state c.args.out.now) (g.O.Sink.state c.perform.new.out))
+    c.perform.ensures.passed
+
+pub returns-in-Some-clause-stopped : goal.returns-in-Some-clause-stopped
+returns-in-Some-clause-stopped g c =
+    if_err_too c.perform.result
+    (calls_before (words_of c.args.words.now) (g.F.Files.passed c.args.files.now) (g.F.Files.passed c.perform.new.files) (request_of c.in-Some.asked) c.in-Some.ensures.asked)
+    c.perform.ensures.stopped

@@ -1,8 +1,9 @@
-use Rattle.std.proofs.Common.{sym, ◌∙◌, inl, inr, ⊎_elim, arith, rules}
-use Rattle.outside_io.specs.command_words.Names.{words_of}
+use Rattle.std.proofs.Common.{sym, ◌∙◌, inl, inr, ⊎_elim, arith}
+use Rattle.command_words.specs.Names.{words_of}
 use Rattle.htn_cli.proofs.Texts.{Told-nothing}
 use Rattle.htn_cli.proofs.Headlines.{headline_done, bound_done, plan_done, finding_refused}
-use Rattle.htn_cli.proofs.Endings.{never_done, answered_refused, answered_done, past_all, past_slots, past_not_done, refused_for, write_fault, read_fault, shows, calm}
+use Rattle.htn_cli.proofs.Endings.{never_done, answered_refused, answered_done, past_all, past_slots_too, past_not_done, stays_done, stays_refused, words_refused, refused_for, write_fault, read_fault, shows, calm}
+use Rattle.htn_cli.proofs.CallsMade.{passes_finding}
 use Rattle.htn_cli.proofs.program.run.Goals as goal
 
 -- what was asked for was done
@@ -74,7 +75,7 @@ returns-in-Err-clause-past_all g c =
 pub returns-in-Err-clause-past_slots : goal.returns-in-Err-clause-past_slots
 returns-in-Err-clause-past_slots g c =
     λ n asks past few.
-    let x = past_slots (words_of c.args.words.now) (g.F.Files.state c.args.files.now) (g.F.Files.state c.act.new.files) (g.O.Sink.state c.args.out.now) (g.O.Sink.state c.act.new.out) n c.in-Err.refusal c.in-Err.ensures.refused asks past few in
+    let x = past_slots_too (words_of c.args.words.now) (g.F.Files.state c.args.files.now) (g.F.Files.state c.act.new.files) (g.O.Sink.state c.args.out.now) (g.O.Sink.state c.act.new.out) n c.in-Err.refusal c.in-Err.ensures.refused asks past few in
     refused_for _ _ _ _ _ _ _ _ _ c.status-status.ensures x.0 x.1 c.tell.ensures.told
 
 pub returns-in-Err-clause-write_fault : goal.returns-in-Err-clause-write_fault
@@ -85,7 +86,7 @@ pub returns-in-Err-clause-untouched : goal.returns-in-Err-clause-untouched
 returns-in-Err-clause-untouched g c = (shows (g.F.Files.state c.args.files.now) (g.F.Files.state c.act.new.files) (g.O.Sink.state c.args.out.now) (g.O.Sink.state c.act.new.out) (words_of c.args.words.now) c.in-Err.refusal _ c.status-status.ensures c.in-Err.ensures.refused).untouched
 
 pub returns-in-Err-clause-words : goal.returns-in-Err-clause-words
-returns-in-Err-clause-words g c = search rules
+returns-in-Err-clause-words g c = words_refused (words_of c.args.words.now) (g.F.Files.state c.args.files.now) (g.F.Files.state c.act.new.files) (g.O.Sink.state c.args.out.now) (g.O.Sink.state c.act.new.out) _ c.in-Err.refusal c.status-status.ensures c.in-Err.ensures.refused
 
 pub returns-in-Err-clause-failed_get : goal.returns-in-Err-clause-failed_get
 returns-in-Err-clause-failed_get g c = (shows (g.F.Files.state c.args.files.now) (g.F.Files.state c.act.new.files) (g.O.Sink.state c.args.out.now) (g.O.Sink.state c.act.new.out) (words_of c.args.words.now) c.in-Err.refusal _ c.status-status.ensures c.in-Err.ensures.refused).get
@@ -95,3 +96,20 @@ returns-in-Err-clause-failed_put g c = (shows (g.F.Files.state c.args.files.now)
 
 pub returns-in-Err-clause-failed_write : goal.returns-in-Err-clause-failed_write
 returns-in-Err-clause-failed_write g c = (shows (g.F.Files.state c.args.files.now) (g.F.Files.state c.act.new.files) (g.O.Sink.state c.args.out.now) (g.O.Sink.state c.act.new.out) (words_of c.args.words.now) c.in-Err.refusal _ c.status-status.ensures c.in-Err.ensures.refused).write
+
+pub returns-in-Ok-clause-inputs_stay : goal.returns-in-Ok-clause-inputs_stay
+returns-in-Ok-clause-inputs_stay g c = λ asks. stays_done _ _ _ _ _ c.in-Ok.ensures.done asks
+
+pub returns-in-Err-clause-inputs_stay : goal.returns-in-Err-clause-inputs_stay
+returns-in-Err-clause-inputs_stay g c =
+    λ asks. stays_refused (words_of c.args.words.now) (g.F.Files.state c.args.files.now) (g.F.Files.state c.act.new.files) (g.O.Sink.state c.args.out.now) (g.O.Sink.state c.act.new.out) c.in-Err.refusal c.in-Err.ensures.refused asks
+
+pub returns-in-Err-clause-found : goal.returns-in-Err-clause-found
+returns-in-Err-clause-found g c =
+    λ e. passes_finding (words_of c.args.words.now) (g.F.Files.passed c.args.files.now) (g.F.Files.passed c.act.new.files) c.in-Err.refusal c.in-Err.ensures.stopped (sym c.status-status.ensures ∙ e) _ _ c.tell.ensures.told
+
+pub returns-in-Err-clause-passed : goal.returns-in-Err-clause-passed
+returns-in-Err-clause-passed g c = λ e. absurd (never_done c.in-Err.refusal (sym c.status-status.ensures ∙ e))
+
+pub returns-in-Err-clause-stopped : goal.returns-in-Err-clause-stopped
+returns-in-Err-clause-stopped g c = λ _. record { refusal = c.in-Err.refusal; status_is = c.status-status.ensures; told = c.tell.ensures.told; calls = c.in-Err.ensures.stopped }

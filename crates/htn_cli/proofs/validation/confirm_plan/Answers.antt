@@ -1,10 +1,10 @@
-use Rattle.std.proofs.Common.{subst, sym}
-use Rattle.htn_base.specs.declared.fault.Fault.{Fault}
+use Rattle.std.proofs.Common.{[], ◌∷◌, subst}
+use Rattle.htn_base.specs.Limits.{most_steps}
 use Rattle.text_forms.specs.declared.sexpr_text.read_error.ReadError.TheVariants.{Bad}
 use Rattle.plan_text.specs.Plans.{RefusesPlan}
-use Rattle.outside_io.specs.command_words.Words as words
 use Rattle.htn_cli.specs.Checks.{IsChecked}
-use Rattle.htn_cli.specs.Validation.{IsLeastOfThree, most_steps, validation_inputs}
+use Rattle.htn_cli.specs.Validation.{IsLeastOfThree}
+use Rattle.htn_cli.proofs.Faulty.{bad_stops, fault_stops_plan, one_of_three_files}
 use Rattle.htn_cli.proofs.Validations.{sound_runnable, confirmed_for, too_many_for, fails_for, least_of_plan}
 use Rattle.htn_cli.proofs.validation.confirm_plan.Goals as goal
 
@@ -16,20 +16,20 @@ returns-in-Ok-Plan-clause-plan c = confirmed_for c.args.value.now c.args.plan.no
 
 pub returns-in-Ok-TooMany-clause-refused : goal.returns-in-Ok-TooMany-clause-refused
 returns-in-Ok-TooMany-clause-refused c =
-    too_many_for c.args.value.now c.args.plan.now (validation_inputs (words.validation_of c.args.asked.now)) c.in-Ok-TooMany.count
+    too_many_for c.args.value.now c.args.plan.now (c.args.asked.now.pd.now ∷ c.args.asked.now.pp.now ∷ c.args.asked.now.plan.now ∷ []) c.in-Ok-TooMany.count
     (subst (IsChecked c.args.value.now c.args.plan.now most_steps) c.in-Ok-TooMany.field-0-is c.in-Ok-TooMany.ensures.checked)
-
-pub returns-in-Ok-Fails-clause-plan : goal.returns-in-Ok-Fails-clause-plan
-returns-in-Ok-Fails-clause-plan c = tt
 
 pub returns-in-Ok-Fails-clause-refused : goal.returns-in-Ok-Fails-clause-refused
 returns-in-Ok-Fails-clause-refused c =
-    fails_for c.args.value.now c.args.plan.now (validation_inputs (words.validation_of c.args.asked.now)) c.in-Ok-Fails.step c.in-Ok-Fails.why
+    fails_for c.args.value.now c.args.plan.now (c.args.asked.now.pd.now ∷ c.args.asked.now.pp.now ∷ c.args.asked.now.plan.now ∷ []) c.in-Ok-Fails.step c.in-Ok-Fails.why
     (subst (IsChecked c.args.value.now c.args.plan.now most_steps) c.in-Ok-Fails.field-0-is c.in-Ok-Fails.ensures.checked)
 
 pub returns-in-Err-Bad-clause-refused : goal.returns-in-Err-Bad-clause-refused
 returns-in-Err-Bad-clause-refused c =
     λ domain problem is.
-    let here : RefusesPlan 2 c.args.plan.now (Bad c.in-Err-Bad.fault) = subst (RefusesPlan 2 c.args.plan.now) c.in-Err-Bad.field-0-is c.in-Err-Bad.ensures.refused in
-    let least = least_of_plan domain problem c.args.plan.now c.in-Err-Bad.fault.file c.in-Err-Bad.fault.code c.in-Err-Bad.fault.at is.faultless here in
-    c.refusal_for.ensures domain problem c.args.plan.now (subst (λ (f : Fault). IsLeastOfThree domain problem c.args.plan.now f.file f.code f.at) (sym c.in-Err-Bad.fault-is) least)
+    let l = c.args.plan.now in
+    let names = c.args.asked.now.pd.now ∷ c.args.asked.now.pp.now ∷ c.args.asked.now.plan.now ∷ [] in
+    let here : RefusesPlan 2 l (Bad c.in-Err-Bad.fault) = subst (RefusesPlan 2 l) c.in-Err-Bad.field-0-is c.in-Err-Bad.ensures.refused in
+    let least = least_of_plan domain problem l c.in-Err-Bad.fault.file c.in-Err-Bad.fault.code c.in-Err-Bad.fault.at is.faultless here in
+    fault_stops_plan names domain problem l c.refusal_for.result
+    (bad_stops names (IsLeastOfThree domain problem l) 3 (one_of_three_files domain problem l) c.place_of.result c.in-Err-Bad.fault c.in-Err-Bad.fault-is least c.place_of.ensures.name c.place_of.ensures.at c.refusal_for.result c.refusal_for.ensures)

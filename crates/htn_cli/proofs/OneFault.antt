@@ -1,0 +1,120 @@
+-- Texts have one least fault, and so one refusal for it.
+use Rattle.std.proofs.Common.{ℕ, nat_eq, ◌≡◌, if◌then◌else◌, List, [], ◌∷◌, ◌++◌, codes, decimal, Option, Some, slice_get, refl, sym, ap, ◌∙◌}
+use Rattle.text_forms.specs.Faults.{fault}
+use Rattle.hddl_reader.specs.declared.sections.Language.TheVariants as language
+use Rattle.plan_model.specs.declared.steps.GroundAction.{GroundAction}
+use Rattle.plan_model.specs.declared.values.Pddl.{Pddl}
+use Rattle.text_values.specs.FaultWords.{fault_word}
+use Rattle.text_values.proofs.OneFault.{have_one_fault, has_one_plan_fault}
+use Rattle.command_words.specs.Names.{Word}
+use Rattle.command_words.specs.Words.{Request, to_translate, to_bound, to_validate}
+use Rattle.htn_cli.specs.Answer.{Output, refuses}
+use Rattle.htn_cli.specs.Answers.{IsLeastOf, Refuses, Gives, RefusesFault}
+use Rattle.htn_cli.specs.Faults.{IsFaultAt, limit_code, place_text, fault_text}
+use Rattle.htn_cli.specs.OneAnswer.{TellTheSame}
+use Rattle.htn_cli.specs.Refusal.{counted_word}
+use Rattle.htn_cli.specs.Requests.{inputs_of}
+use Rattle.htn_cli.specs.Validation.{IsLeastOfThree, of_problem, of_plan, Spell}
+use Rattle.htn_cli.specs.declared.faults.Counted.{Counted}
+use Rattle.htn_cli.specs.declared.faults.Counted.TheVariants.{Depth, Subtasks, Types}
+use Rattle.htn_cli.specs.declared.faults.Place.{Place}
+use Rattle.htn_cli.specs.declared.refusal.Finding.TheVariants as finding
+use Rattle.htn_cli.specs.declared.refusal.Limit.TheVariants as limit
+use Rattle.htn_cli.specs.declared.refusal.Refusal.{Refusal}
+use Rattle.htn_cli.specs.declared.refusal.Refusal.TheVariants as refused
+
+-- two places with one text
+pub record AreOnePlace (one other : Place) : Type 0 where
+  pub name : one.name.now ≡ other.name.now
+  pub at : one.at ≡ other.at
+
+place_same : (one other : Place) → AreOnePlace one other → place_text one ≡ place_text other
+place_same one other e = λ i. e.name i ++ codes ":" ++ decimal (e.at i)
+
+fault_same : (one other : Place) (code more : ℕ) → AreOnePlace one other → code ≡ more → fault_text one code ≡ fault_text other more
+fault_same one other code more e f = λ i. place_same one other e i ++ codes ": fault " ++ decimal (f i) ++ codes " " ++ fault_word (f i)
+
+abbrev counted_by : ℕ → Counted
+counted_by code = if nat_eq code 4 then Depth else (if nat_eq code 21 then Subtasks else Types)
+
+counted_back : (counted : Counted) → counted_by (limit_code counted) ≡ counted
+counted_back Depth = refl
+counted_back Subtasks = refl
+counted_back Types = refl
+
+one_counted : (one other : Counted) → limit_code one ≡ limit_code other → one ≡ other
+one_counted one other e = sym (counted_back one) ∙ ap counted_by e ∙ counted_back other
+
+-- of three texts
+module _ (domain problem plan : List ℕ) where
+  one_of_three : (file code at : ℕ) → IsLeastOfThree domain problem plan file code at → (other more place : ℕ) → IsLeastOfThree domain problem plan other more place → (file ≡ other) × (code ≡ more) × (at ≡ place)
+  one_of_three file code at (of_problem f) other more place (of_problem g) = (have_one_fault language.Pddl domain problem).one file code at f other more place g
+  one_of_three file code at (of_problem f) other more place (of_plan none g) = absurd ((have_one_fault language.Pddl domain problem).none none file code at f)
+  one_of_three file code at (of_plan none f) other more place (of_problem g) = absurd ((have_one_fault language.Pddl domain problem).none none other more place g)
+  one_of_three file code at (of_plan none f) other more place (of_plan also g) = let e = (has_one_plan_fault plan).one (fault code at) (fault more place) f g in (refl, ap (λ z. z.code) e, ap (λ z. z.at) e)
+
+  fault_or_spelled : (file code at : ℕ) → IsLeastOfThree domain problem plan file code at → (c : Pddl) (steps : List GroundAction) → Spell domain problem plan c steps → ⊥
+  fault_or_spelled file code at (of_problem f) c steps s = (have_one_fault language.Pddl domain problem).none s.value.faultless file code at f
+  fault_or_spelled file code at (of_plan none f) c steps s = (has_one_plan_fault plan).none steps s.list (fault code at) f
+
+one_least : (request : Request) (texts : List (List ℕ)) (file code at : ℕ) → IsLeastOf request texts file code at → (other more place : ℕ) → IsLeastOf request texts other more place
+    → (file ≡ other) × (code ≡ more) × (at ≡ place)
+one_least (to_translate r) (d ∷ p ∷ []) file code at f other more place g = (have_one_fault language.Hddl d p).one file code at f other more place g
+one_least (to_bound r) (d ∷ p ∷ []) file code at f other more place g = (have_one_fault language.Hddl d p).one file code at f other more place g
+one_least (to_validate r) (d ∷ p ∷ plan ∷ []) file code at f other more place g = one_of_three d p plan file code at f other more place g
+one_least _ _ file code at f other more place g = absurd f
+
+-- texts that are declined have no fault
+declined_faultless : (request : Request) (texts : List (List ℕ)) (refusal : Refusal) → Refuses request texts refusal → (file code at : ℕ) → IsLeastOf request texts file code at → ⊥
+declined_faultless (to_translate r) (d ∷ p ∷ []) (refused.Finding (finding.NotTailRecursive words)) (none, (c, s, named)) file code at f = (have_one_fault language.Hddl d p).none s.read.faultless file code at f
+declined_faultless (to_translate r) (d ∷ p ∷ []) (refused.Limit limit.Bound) (none, (n, (c, s, bound), past)) file code at f = (have_one_fault language.Hddl d p).none s.read.faultless file code at f
+declined_faultless (to_translate r) (d ∷ p ∷ []) (refused.Limit (limit.Slots m)) (none, (n, (c, s, bound), past)) file code at f = (have_one_fault language.Hddl d p).none s.read.faultless file code at f
+declined_faultless (to_translate r) (d ∷ p ∷ []) (refused.Limit (limit.Output n)) (c, slots, source, long) file code at f = (have_one_fault language.Hddl d p).none source.problem_is.read.faultless file code at f
+declined_faultless (to_bound r) (d ∷ p ∷ []) (refused.Finding (finding.NotTailRecursive words)) (c, s, named) file code at f = (have_one_fault language.Hddl d p).none s.read.faultless file code at f
+declined_faultless (to_bound r) (d ∷ p ∷ []) (refused.Limit limit.Bound) (n, (c, s, bound), past) file code at f = (have_one_fault language.Hddl d p).none s.read.faultless file code at f
+declined_faultless (to_validate r) (d ∷ p ∷ plan ∷ []) (refused.Limit (limit.Steps n)) (c, steps, s, e, many) file code at f = fault_or_spelled d p plan file code at f c steps s
+declined_faultless (to_validate r) (d ∷ p ∷ plan ∷ []) (refused.Finding (finding.NotAPlan step why)) (c, steps, s, fails) file code at f = fault_or_spelled d p plan file code at f c steps s.spelled
+declined_faultless _ _ refusal x file code at f = absurd x
+
+given_faultless : (request : Request) (texts : List (List ℕ)) (output : Output) → Gives request texts output → (file code at : ℕ) → IsLeastOf request texts file code at → ⊥
+given_faultless (to_translate r) (d ∷ p ∷ []) output (texts, slots, written, e) file code at f = (have_one_fault language.Hddl d p).none written.source.problem_is.read.faultless file code at f
+given_faultless (to_bound r) (d ∷ p ∷ []) output (n, (c, s, bound), small, e) file code at f = (have_one_fault language.Hddl d p).none s.read.faultless file code at f
+given_faultless (to_validate r) (d ∷ p ∷ plan ∷ []) output ((c, steps, s, is), e) file code at f = fault_or_spelled d p plan file code at f c steps s.spelled
+given_faultless _ _ output x file code at f = absurd x
+
+one_name : (one other : Option Word) (a b : Word) → one ≡ other → one ≡ Some a → other ≡ Some b → a ≡ b
+one_name one other a b e f g = let h : Some a ≡ Some b = sym f ∙ e ∙ g in cc
+
+module _ (request : Request) (texts : List (List ℕ)) where
+  abbrev At : Place → ℕ → Type 0
+  At = IsFaultAt (inputs_of request) (IsLeastOf request texts)
+
+  one_place : (one other : Place) (code more : ℕ) → At one code → At other more → AreOnePlace one other × (code ≡ more)
+  one_place one other code more f g =
+      let e = one_least request texts f.file code one.at f.least g.file more other.at g.least in
+      (record { name = one_name (slice_get (inputs_of request) f.file) (slice_get (inputs_of request) g.file) one.name.now other.name.now (ap (slice_get (inputs_of request)) e.0) f.name_is g.name_is; at = e.2 }, e.1)
+
+  pub one_fault : (a b : Refusal) → RefusesFault request texts a → RefusesFault request texts b → TellTheSame (refuses a) (refuses b)
+  one_fault (refused.Fault place code) (refused.Fault there more) (f, free) (g, also) =
+      let s = one_place place there code more f g in
+      record { status = refl; line = (let e = fault_same place there code more s.0 s.1 in λ i. e i ++ codes "\n"); output = refl }
+  one_fault (refused.Fault place code) (refused.Limit (limit.Text counted there)) (f, free) g = absurd (free counted (one_place place there code (limit_code counted) f g).1)
+  one_fault (refused.Limit (limit.Text counted place)) (refused.Fault there more) f (g, free) = absurd (free counted (one_place there place more (limit_code counted) g f).1)
+  one_fault (refused.Limit (limit.Text counted place)) (refused.Limit (limit.Text also there)) f g =
+      let s = one_place place there (limit_code counted) (limit_code also) f g in
+      let word = ap counted_word (one_counted counted also s.1) in
+      let at = place_same place there s.0 in
+      record { status = refl; line = λ i. codes "limit " ++ word i ++ (codes " " ++ at i) ++ codes "\n"; output = refl }
+  one_fault (refused.Fault place code) _ f g = absurd g
+  one_fault (refused.Limit (limit.Text counted place)) _ f g = absurd g
+  one_fault _ b f g = absurd f
+
+  pub fault_not_declined : (a b : Refusal) → RefusesFault request texts a → Refuses request texts b → ⊥
+  fault_not_declined (refused.Fault place code) b (f, free) x = declined_faultless request texts b x f.file code place.at f.least
+  fault_not_declined (refused.Limit (limit.Text counted place)) b f x = declined_faultless request texts b x f.file (limit_code counted) place.at f.least
+  fault_not_declined _ b f x = absurd f
+
+  pub fault_not_given : (a : Refusal) (output : Output) → RefusesFault request texts a → Gives request texts output → ⊥
+  fault_not_given (refused.Fault place code) output (f, free) x = given_faultless request texts output x f.file code place.at f.least
+  fault_not_given (refused.Limit (limit.Text counted place)) output f x = given_faultless request texts output x f.file (limit_code counted) place.at f.least
+  fault_not_given _ output f x = absurd f

@@ -1,0 +1,25 @@
+-- What the texts of a domain and of a problem in HDDL come to, where they have no fault.
+-- Source: this project's.
+use Rattle.std.specs.Prelude.{ℕ, List}
+use Rattle.plan_model.specs.declared.options.Checks.{Checks}
+use Rattle.plan_model.specs.declared.values.Hddl.{Hddl}
+use Rattle.plan_model.specs.declared.values.Compiled.{Compiled}
+use Rattle.plan_model.specs.plan_meaning.Bound.{IsBound}
+use Rattle.plan_model.specs.plan_meaning.Compilation.{IsCompiled}
+use Rattle.bound_calc.specs.NoBound.{NamesCycle}
+use Rattle.text_values.specs.Values.{IsValueOf}
+
+module _ (domain problem : List ℕ) (checks : Checks) where
+  -- they spell a problem: this is its compiled value
+  pub record SpellProblem (compiled : Compiled) : Type 0 where
+    pub value : Hddl
+    pub read : IsValueOf domain problem value
+    pub compiled_is : IsCompiled value checks compiled
+
+  -- they spell a problem with this bound
+  abbrev pub HaveBound : ℕ → Type 0
+  HaveBound n = (compiled : Compiled) × SpellProblem compiled × IsBound compiled n
+
+  -- they spell a problem whose bad cycle that is named has these words
+  abbrev pub HaveCycle : List ℕ → Type 0
+  HaveCycle words = (compiled : Compiled) × SpellProblem compiled × NamesCycle compiled words

@@ -1,0 +1,67 @@
+-- A translation, from the texts of a domain and of a problem: when it is refused, and what it gives.
+-- Source: this project's.
+use Rattle.std.specs.Prelude.{ℕ, ◌≡◌, ◌≤◌, List, [], ◌∷◌, Option, Some, None}
+use Rattle.htn_base.specs.Limits.{most_slots}
+use Rattle.plan_model.specs.declared.values.Compiled.{Compiled}
+use Rattle.plan_model.specs.plan_meaning.Bound.{IsBound}
+use Rattle.command_words.specs.Names.{Word, Names}
+use Rattle.command_words.specs.Words.{TranslationRequest, number_of}
+use Rattle.htn_cli.specs.Answer.{Output}
+use Rattle.htn_cli.specs.Lines.{slots_line}
+use Rattle.htn_cli.specs.Problem.{SpellProblem, HaveBound, HaveCycle}
+use Rattle.htn_cli.specs.Slots.{RefusesSlots}
+use Rattle.htn_cli.specs.Texts.{Texts, AreTranslated, AreTooLong}
+use Rattle.htn_cli.specs.declared.manner.Manner.{Manner}
+use Rattle.htn_cli.specs.declared.refusal.Finding.TheVariants as finding
+use Rattle.htn_cli.specs.declared.refusal.Limit.TheVariants as limit
+use Rattle.htn_cli.specs.declared.refusal.Refusal.{Refusal}
+use Rattle.htn_cli.specs.declared.refusal.Refusal.TheVariants as refused
+
+-- so many slots are printed: the number that is given, or else the bound of the problem
+abbrev pub AreSlotsOf : Compiled → Option Word → ℕ → Type 0
+AreSlotsOf compiled (Some numeral) n = n ≡ number_of numeral
+AreSlotsOf compiled None n = IsBound compiled n
+
+-- what a translation gives: both texts for the files of these names, and the number of slots
+abbrev pub translation_output : Names → Texts → ℕ → Output
+translation_output names texts slots = record {
+  texts =
+      record { name = names.printed_domain; bytes = texts.domain }
+      ∷ record { name = names.printed_problem; bytes = texts.problem } ∷ [];
+  told = slots_line slots;
+}
+
+module _ (request : TranslationRequest) (domain problem : List ℕ) where
+  abbrev pub manner_with : ℕ → Manner
+  manner_with slots = record { slots = slots; style = request.style; checks = request.checks }
+
+  -- the problem is printed with so many slots
+  pub record IsForSlots (compiled : Compiled) (slots : ℕ) : Type 0 where
+    pub problem_is : SpellProblem domain problem request.checks compiled
+    pub slots_are : AreSlotsOf compiled request.numeral slots
+    pub some : 1 ≤ slots
+    pub few : slots ≤ most_slots
+
+  -- the texts that are written, and the number of their slots
+  pub record AreWritten (texts : Texts) (slots : ℕ) : Type 0 where
+    pub compiled : Compiled
+    pub source : IsForSlots compiled slots
+    pub translated : AreTranslated source.problem_is.value compiled (manner_with slots) texts
+
+  -- the bound of the problem, where no number of slots is given, is past a limit
+  abbrev pub RefusesBoundOf : Refusal → Type 0
+  RefusesBoundOf refusal = (request.numeral ≡ None) × ((n : ℕ) × HaveBound domain problem request.checks n × RefusesSlots n refusal)
+
+  -- the refusals of texts without a fault
+  abbrev pub RefusesTranslation : Refusal → Type 0
+  RefusesTranslation (refused.Finding (finding.NotTailRecursive words)) =
+      (request.numeral ≡ None) × HaveCycle domain problem request.checks words
+  RefusesTranslation (refused.Limit limit.Bound) = RefusesBoundOf (refused.Limit limit.Bound)
+  RefusesTranslation (refused.Limit (limit.Slots n)) = RefusesBoundOf (refused.Limit (limit.Slots n))
+  RefusesTranslation (refused.Limit (limit.Output n)) =
+      (compiled : Compiled) × (slots : ℕ) × IsForSlots compiled slots × AreTooLong compiled (manner_with slots) n
+  RefusesTranslation _ = ⊥
+
+  -- and what is given
+  abbrev pub GivesTranslation : Output → Type 0
+  GivesTranslation output = (texts : Texts) × (slots : ℕ) × AreWritten texts slots × (output ≡ translation_output request.names texts slots)

@@ -1,0 +1,5 @@
+pub mod Problems
+pub mod Headline
+pub mod Bound
+pub mod Plan
+pub mod Finding

@@ -1,0 +1,54 @@
+-- What is promised of a finding that was told, for all that the files tell of the inputs.
+-- Source: this project's.
+use Rattle.std.specs.Prelude.{ℕ, List, [], ◌∷◌}
+use Rattle.outside_io.specs.Files.{FilesState}
+use Rattle.outside_io.specs.Sink.{SinkState}
+use Rattle.plan_model.specs.declared.options.Checks.{Checks}
+use Rattle.plan_model.specs.declared.values.Pddl.{Pddl}
+use Rattle.plan_model.specs.declared.steps.GroundAction.{GroundAction}
+use Rattle.plan_model.specs.plan_meaning.FailingStep.{Fails}
+use Rattle.plan_model.specs.plan_meaning.Strata.{Edge}
+use Rattle.plan_texts.specs.PlanText.{SpellsPlan}
+use Rattle.plan_texts.specs.SpellsPddl.{SpellsPddl}
+use Rattle.plan_model.specs.declared.causes.FailWhy.{FailWhy}
+use Rattle.plan_proof.specs.TextPlans.{IsPlanOf}
+use Rattle.bound_calc.specs.stratifier.NamedCycle.{IsNamed}
+use Rattle.bound_calc.specs.stratifier.CycleWords.{cycle_line}
+use Rattle.command_words.specs.Names.{Word}
+use Rattle.command_words.specs.Words.{Request, to_translate, to_bound, to_validate, Asks}
+use Rattle.htn_cli.specs.Told.{AreToldToRead}
+use Rattle.htn_cli.specs.Requests.{inputs_of}
+use Rattle.htn_cli.specs.Refusal.{line_of}
+use Rattle.htn_cli.specs.Sent.{Told}
+use Rattle.htn_cli.specs.declared.refusal.Finding.TheVariants as finding
+use Rattle.htn_cli.specs.declared.refusal.Refusal.TheVariants as refused
+use Rattle.htn_cli.specs.promise.Problems.{ForEach}
+
+-- a problem that is not tail-recursive: the line tells its bad cycle that is named
+abbrev pub TellsCycle : (checks : Checks) (d p : List ℕ) → SinkState → SinkState → Type 0
+TellsCycle checks d p err err' = ForEach d p checks (λ h c. (edges : List Edge) × IsNamed c edges × Told (cycle_line c edges) err err')
+
+-- a list that was called none: it is the list that the third text spells, and no plan of the two others; the line tells the first step that
+-- fails in a value that these spell, and its first cause
+pub record TellsFailure (pd pp plan : List ℕ) (err err' : SinkState) : Type 0 where
+  pub steps : List GroundAction
+  pub step : ℕ
+  pub why : FailWhy
+  pub value : Pddl
+  pub told : Told (line_of (refused.Finding (finding.NotAPlan step why))) err err'
+  pub spelled : SpellsPlan plan steps
+  pub value_is : SpellsPddl pd pp value
+  pub fails : Fails value steps step why
+  pub no_plan : IsPlanOf pd pp steps → ⊥
+
+-- what was found, and told, of a request whose inputs have these texts
+abbrev pub TellsFinding : Request → List (List ℕ) → SinkState → SinkState → Type 0
+TellsFinding (to_translate request) (d ∷ p ∷ []) err err' = TellsCycle request.checks d p err err'
+TellsFinding (to_bound request) (d ∷ p ∷ []) err err' = TellsCycle request.checks d p err err'
+TellsFinding (to_validate request) (pd ∷ pp ∷ plan ∷ []) err err' = TellsFailure pd pp plan err err'
+TellsFinding _ _ err err' = Unit {0}
+
+module _ (words : List Word) (files : FilesState) (err err' : SinkState) where
+  abbrev pub HasFinding : Type 0
+  HasFinding = (request : Request) (texts : List (List ℕ)) → Asks words request → AreToldToRead files (inputs_of request) texts
+      → TellsFinding request texts err err'
