@@ -4,7 +4,8 @@
 # 2,000 packages at 4,096 slots; 500 methods of 40 subtasks; 140,000 facts; and `validate` of 50,000 steps (bench/validate.sh has
 # the same with a million). Wants ./htn, as examples/transport/run leaves it, and valgrind. A line each: the instructions.
 #
-# Counted, in the order of the cases, millions: 19.4, 81.2, 740.4, 405.4, 326.8, 277.9, 211.3. Before small functions of one call stood in
+# Counted, in the order of the cases, millions: 19.6, 81.4, 740.6, 405.3, 330.7, 279.0, 210.1. Before words of one hash were found in
+# order and an answer was an output: 19.4, 81.2, 740.4, 405.4, 326.8, 277.9, 211.3. Before small functions of one call stood in
 # their callers, for the third time: 19.3, 80.9, 738.4, 405.3, 326.3, 276.0, 213.9; for the second: 19.1, 81.6, 747.9, 413.2, 331.7, 281.2,
 # 215.5; for the first: 19.1, 81.7, 748.0, 412.9, 329.7, 283.6, 215.5.
 # Before words were found by a hash of all
