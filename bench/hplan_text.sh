@@ -7,9 +7,9 @@
 # text that is, and the load of the machine over the last minute; each figure is the least of three runs. Where valgrind is at hand, before that
 # the instructions a byte, on an eighth and on the whole. Arguments name the texts that are tried, all where there are none.
 #
-# Instructions a byte, of the whole: tasks in order 144.9, tasks mixed 140.2, lines in order 308.2; of an eighth 144.9, 134.4 and 304.0. The most
-# memory: 7.7, 7.5 and 11.2 times the text. Milliseconds at loads of 6 to 9: 357, 2,230 and 923. Of the instructions of tasks in order about a
-# fifth is `BTreeSet::insert`, and of lines mixed two fifths.
+# Instructions a byte, of the whole: tasks in order 144.9, tasks mixed 140.2, lines in order 308.2, lines mixed 274.8; of an eighth 144.9, 134.4,
+# 304.0 and 273.7. The most memory: 7.7, 7.5, 11.2 and 10.7 times the text. Milliseconds at loads of 6 to 9: 357, 2,230, 923 and 2,377. Of the
+# instructions of tasks in order about a fifth is `BTreeSet::insert`, and of lines mixed two fifths.
 set -euo pipefail
 top=$(cd "$(dirname "$0")/.." && pwd)
 work=$(mktemp -d)
