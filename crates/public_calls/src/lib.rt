@@ -8,6 +8,8 @@
 #[cfg(test)]
 mod files_and_sinks;
 #[cfg(test)]
+mod growths;
+#[cfg(test)]
 mod names_and_texts;
 #[cfg(test)]
 mod order_formulas;

@@ -15,6 +15,8 @@ mod faults;
 #[cfg(test)]
 mod forms;
 #[cfg(test)]
+mod hierarchical_plans;
+#[cfg(test)]
 mod readings;
 #[cfg(test)]
 mod tokens;
