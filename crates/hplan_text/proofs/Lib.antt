@@ -11,4 +11,7 @@ pub mod Walked
 pub mod ReadLines
 pub mod Judged
 pub mod OneHPlan
+pub mod PrintedWords
+pub mod PrintedRows
+pub mod ReadBack
 pub mod examples

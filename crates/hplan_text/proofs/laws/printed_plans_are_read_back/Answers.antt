@@ -1,0 +1,5 @@
+use Rattle.hplan_text.proofs.ReadBack.{read-back}
+use Rattle.hplan_text.proofs.laws.printed_plans_are_read_back.Goals as goal
+
+pub returns : goal.returns
+returns c = read-back
