@@ -115,8 +115,7 @@ named-words : (at : ℕ) (ws vs : List (List ℕ)) → EachIs IsPrintableWord ws
 named-words at [] vs p none = (at, none at)
 named-words at (w ∷ ws) vs p none =
     let r = named-words (at + suc (length w)) ws vs p.1 none in
-    let s : Said = record { at = at; word = w } in
-    (
+    let s : Said = record { at = at; word = w } in (
       r.0,
       ap₂ (λ t n. with_name t s (placed (at + suc (length w)) (ws ++ vs)) n) p.0.name r.1 ∙ ap (λ u. cut (u ∷ ws) (placed r.0 vs)) p.0.lower,
     )
@@ -131,8 +130,7 @@ id_at at n = mention (record { at = at; word = decimal n })
 task-is : (at n : ℕ) (ws vs : List (List ℕ)) → IsSmall n → EachIs IsPrintableWord ws → ((k : ℕ) → named (placed k vs) ≡ cut [] (placed k vs))
     → (k : ℕ) × (row (line_at at (decimal n) (ws ++ vs)) ≡ task_row (id_at at n) ws (placed k vs))
 task-is at n ws vs l p none =
-    let r = named-words (at + suc (length (decimal n))) ws vs p none in
-    (
+    let r = named-words (at + suc (length (decimal n))) ws vs p none in (
       r.0,
       ap₂ (λ t u. row_by t u (line_at at (decimal n) (ws ++ vs))) (id-no-root n l) (id-is n l) ∙ ap (λ (x : Named). task_row (id_at at n) x.names x.behind) r.1,
     )
@@ -152,11 +150,10 @@ node-row at x p =
     let j : ℕ = r.0 + suc (length (codes "->")) in
     let k : ℕ = j + suc (length x.method) in
     let s : Said = record { at = j; word = x.method } in
-    let ids : List Said = placed k (map decimal x.ids) in
-    (
+    let ids : List Said = placed k (map decimal x.ids) in (
       k,
       r.1 ∙ ap (λ t. node_row t m x.line.name x.line.args s ids) (both p.method.name (ids-are k x.ids p.ids))
-      ∙ ap (λ w. decomposed m x.line.name x.line.args w (map mention ids)) p.method.lower,
+          ∙ ap (λ w. decomposed m x.line.name x.line.args w (map mention ids)) p.method.lower,
     )
 
 pub root-row : (at : ℕ) (ids : List ℕ) → EachIs IsSmall ids → row (line_at at (codes "root") (map decimal ids)) ≡ top (mentions (at + suc (length (codes "root"))) ids)

@@ -140,7 +140,7 @@ text-rows : (plan : HPlan) → rows_text (plan_rows plan) ≡ hplan_text plan
 text-rows plan =
     ap (λ z. row_text (codes "==>" ∷ []) ++ z)
     (rows-append (map line_words plan.primitives) (root_list plan)
-      ∙ ap (λ z. line_rows plan.primitives ++ (row_text (root_words plan.root) ++ z)) (rows-append (map node_words plan.nodes) (end_row ∷ []) ∙ ap (λ z. node_rows plan.nodes ++ z) (append-nil (row_text end_row))))
+    ∙ ap (λ z. line_rows plan.primitives ++ (row_text (root_words plan.root) ++ z)) (rows-append (map node_words plan.nodes) (end_row ∷ []) ∙ ap (λ z. node_rows plan.nodes ++ z) (append-nil (row_text end_row))))
 
 each-mapped : {X Y : Type 0} (P : X → Type 0) (Q : Y → Type 0) (f : X → Y) → ((x : X) → P x → Q (f x)) → (xs : List X) → EachIs P xs → EachIs Q (map f xs)
 each-mapped P Q f h [] p = tt
@@ -149,11 +149,10 @@ each-mapped P Q f h (x ∷ xs) p = (h x p.0, each-mapped P Q f h xs p.1)
 rows-plain : (plan : HPlan) → IsPrintableHPlan plan → EachIs (EachIs IsPlain) (plan_rows plan)
 rows-plain plan p = (
   ((omega arith, (refl, (refl, (refl, tt)))), tt),
-  each-append (EachIs IsPlain) (map line_words plan.primitives) (root_list plan) (each-mapped IsPrintableLine (EachIs IsPlain) line_words line-plain plan.primitives p.primitives)
-  (
+  each-append (EachIs IsPlain) (map line_words plan.primitives) (root_list plan) (each-mapped IsPrintableLine (EachIs IsPlain) line_words line-plain plan.primitives p.primitives) (
     root-plain plan.root p.root,
     each-append (EachIs IsPlain) (map node_words plan.nodes) (end_row ∷ []) (each-mapped IsPrintableNode (EachIs IsPlain) node_words node-plain plan.nodes p.nodes)
-    (((omega arith, (refl, (refl, (refl, tt)))), tt), tt),
+        (((omega arith, (refl, (refl, (refl, tt)))), tt), tt),
   ),
 )
 
@@ -245,6 +244,6 @@ read-back plan p s =
     let text : List ℕ = hplan_text plan in
     record {
       faultless = faultless text (ap (faults_of_lines (length text)) is ∙ no-line-fault m t.0 u.formed t.1) (ap faults_of_ids is ∙ no-id-fault (rows m) plan s u.own u.listed)
-      (λ g h. no-tree-fault (rows m) plan s u.own plan-is g (subst (λ o. IsTreeFault o g) is h));
+          (λ g h. no-tree-fault (rows m) plan s u.own plan-is g (subst (λ o. IsTreeFault o g) is h));
       spelled = spelled;
     }
