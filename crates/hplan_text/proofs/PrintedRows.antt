@@ -1,5 +1,5 @@
 -- What each printed line says.
-use Rattle.std.proofs.Common.{ℕ, suc, ◌≡◌, ◌∙◌, ◌+◌, ◌^◌, ◌<◌, ◌≤◌, ◌==◌, ◌&&◌, nat_lt, nat_le, Bool, true, false, not, List, [], ◌∷◌, ◌++◌, map, length, codes, refl, sym, ap, ap₂, arith}
+use Rattle.std.proofs.Common.{ℕ, suc, ◌≡◌, ◌∙◌, ◌+◌, ◌^◌, ◌≤◌, ◌==◌, ◌&&◌, nat_lt, Bool, true, false, not, List, [], ◌∷◌, ◌++◌, map, length, codes, refl, sym, ap, ap₂, arith}
 use Rattle.std.specs.Char.{is_ascii_digit, to_ascii_lowercase}
 use Rattle.std.specs.Fmt.{decimal}
 use Rattle.std.specs.List.{list_all}
@@ -17,7 +17,7 @@ use Rattle.hplan_text.specs.declared.mention.Mention.{Mention}
 use Rattle.hplan_text.specs.declared.values.HLine.{HLine}
 use Rattle.hplan_text.specs.declared.values.HNode.{HNode}
 use Rattle.hplan_text.specs.Lines.{Said, Line}
-use Rattle.hplan_text.specs.Rows.{top, primitive, decomposed, is_id, mention, are_ids, is_word_byte, is_arrow, is_name, Named, with_name, named, top_row, node_row, task_row, row_by, is_root, row, number}
+use Rattle.hplan_text.specs.Rows.{top, primitive, decomposed, is_id, mention, are_ids, is_word_byte, is_arrow, Named, with_name, named, top_row, node_row, task_row, row_by, is_root, row, number}
 use Rattle.hplan_text.specs.HPlanText.{line_words, root_words, node_words}
 use Rattle.hplan_text.specs.Printable.{IsPrintableWord, IsSmall, IsPrintableLine, IsPrintableNode}
 use Rattle.hplan_text.proofs.PrintedWords.{IsPlain, placed, each-append}

@@ -1,8 +1,7 @@
 -- What is printed for a plan is read back as the plan.
-use Rattle.std.proofs.Common.{ℕ, suc, ◌≡◌, ◌∙◌, ◌+◌, ◌==◌, ◌||◌, ◌⊎◌, inl, inr, Bool, true, false, Option, Some, None, List, [], ◌∷◌, ◌++◌, map, drop, length, codes, refl, sym, ap, ap₂, subst, append_assoc, arith}
+use Rattle.std.proofs.Common.{ℕ, suc, ◌≡◌, ◌∙◌, ◌+◌, ◌==◌, ◌||◌, inl, inr, Bool, true, false, Option, Some, List, [], ◌∷◌, ◌++◌, map, drop, length, codes, refl, sym, ap, ap₂, subst, append_assoc, arith}
 use Rattle.std.specs.Fmt.{decimal}
 use Rattle.std.specs.List.{filter_map, cons_option}
-use Rattle.std.specs.Option.{option_map}
 use Rattle.std.proofs.lemmas.Bool.{eq-eqb, ne_eqb}
 use Rattle.std.proofs.lemmas.List.{append-nil, map-append}
 use Rattle.htn_base.specs.Different.{AreDifferent}
@@ -18,8 +17,7 @@ use Rattle.hplan_text.specs.Rows.{Row, bad, top, primitive, decomposed, row, num
 use Rattle.hplan_text.specs.SpellsHPlan.{rows, own_ids, all_listed, tops, first_top, plan_of, SpellsHPlan}
 use Rattle.hplan_text.specs.HPlanText.{words_text, row_text, rows_text, line_words, root_words, node_words, line_rows, node_rows, hplan_text}
 use Rattle.hplan_text.specs.HPlanFaults.{bad_place, top_place, bad_places, top_places, no_root, line_faults, faults_of_lines, is_among, put_if, repeats_behind, repeats, others, faults_at, id_faults, faults_of_ids, Reaches, IsUnreached, IsTreeFault}
-use Rattle.hplan_text.specs.Reading.{IsHPlanRead}
-use Rattle.hplan_text.specs.Printable.{IsSmall, IsPrintableLine, IsPrintableNode, IsPrintableHPlan, line_id, node_id, task_ids, listed_by, all_ids, IsSoundHPlan, PrintableHPlansAreReadBack}
+use Rattle.hplan_text.specs.Printable.{IsPrintableLine, IsPrintableNode, IsPrintableHPlan, line_id, node_id, task_ids, listed_by, all_ids, IsSoundHPlan, PrintableHPlansAreReadBack}
 use Rattle.hplan_text.proofs.PhaseFaults.{faultless}
 use Rattle.hplan_text.proofs.PrintedWords.{IsPlain, each-append, lines_of, rows-lines}
 use Rattle.hplan_text.proofs.PrintedRows.{id-value, numbers-are, mentions, line_at, id_at, primitive-row, behind_name, node-row, root-row, line-plain, root-plain, node-plain}

@@ -1,10 +1,9 @@
 -- A plan that is printed and read back, and plans that aren't printable or not sound, by computation.
-use Rattle.std.proofs.Common.{ℕ, ◌≡◌, inl, inr, List, [], ◌∷◌, codes, get_or, ap, refl, sym, subst, lit<, arith}
+use Rattle.std.proofs.Common.{ℕ, ◌≡◌, inl, inr, [], ◌∷◌, codes, get_or, ap, refl, subst, lit<, arith}
 use Rattle.plan_texts.specs.Types.{Has}
 use Rattle.plan_texts.proofs.Members.{each-lacks}
 use Rattle.hplan_text.specs.declared.values.HNode.{HNode}
 use Rattle.hplan_text.specs.declared.values.HPlan.{HPlan}
-use Rattle.hplan_text.specs.HPlanText.{hplan_text}
 use Rattle.hplan_text.specs.HPlanFaults.{Reaches, lists, leads}
 use Rattle.hplan_text.specs.Reading.{IsHPlanRead}
 use Rattle.hplan_text.specs.Printable.{IsPrintableWord, IsPrintableHPlan, task_ids, all_ids, IsSoundHPlan}
