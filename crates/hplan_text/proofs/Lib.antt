@@ -14,4 +14,5 @@ pub mod OneHPlan
 pub mod PrintedWords
 pub mod PrintedRows
 pub mod ReadBack
+pub mod SpelledWords
 pub mod examples

@@ -25,11 +25,11 @@ use Rattle.hplan_text.proofs.PrintedWords.{IsPlain, placed, each-append}
 both : {a b : Bool} → a ≡ true → b ≡ true → (a && b) ≡ true
 both e f = ap₂ (λ a b. a && b) e f
 
-first-of : (a b : Bool) → (a && b) ≡ true → a ≡ true
+pub first-of : (a b : Bool) → (a && b) ≡ true → a ≡ true
 first-of true b e = refl
 first-of false b e = e
 
-second-of : (a b : Bool) → (a && b) ≡ true → b ≡ true
+pub second-of : (a b : Bool) → (a && b) ≡ true → b ≡ true
 second-of true b e = e
 second-of false b e = absurd cc
 

@@ -9,6 +9,7 @@ use Rattle.hplan_text.specs.declared.values.HNode.{HNode}
 use Rattle.hplan_text.specs.declared.values.HPlan.{HPlan}
 use Rattle.hplan_text.specs.Rows.{is_name}
 use Rattle.hplan_text.specs.HPlanText.{hplan_text}
+use Rattle.hplan_text.specs.SpellsHPlan.{SpellsHPlan}
 use Rattle.hplan_text.specs.HPlanFaults.{Reaches}
 use Rattle.hplan_text.specs.Reading.{IsHPlanRead}
 
@@ -66,3 +67,7 @@ pub record IsSoundHPlan (plan : HPlan) : Type 0 where
 -- What is printed for such a plan has no fault, and spells the plan.
 abbrev pub PrintableHPlansAreReadBack : Type 0
 PrintableHPlansAreReadBack = (plan : HPlan) → IsPrintableHPlan plan → IsSoundHPlan plan → IsHPlanRead (hplan_text plan) plan
+
+-- The words and the ids of a plan that a text spells are printable.
+abbrev pub SpelledHPlansArePrintable : Type 0
+SpelledHPlansArePrintable = (text : List ℕ) (plan : HPlan) → SpellsHPlan text plan → IsPrintableHPlan plan

@@ -1,5 +1,5 @@
 // Laws of hierarchical plans as texts, each the contract of a function that does nothing.
-ghost use Rattle.hplan_text.specs.Printable.{PrintableHPlansAreReadBack};
+ghost use Rattle.hplan_text.specs.Printable.{PrintableHPlansAreReadBack, SpelledHPlansArePrintable};
 ghost use Rattle.hplan_text.specs.Reading.{SpellsOneHPlan};
 
 /// A text spells one hierarchical plan at most.
@@ -8,7 +8,9 @@ pub fn a_text_spells_one_hplan(text: &[u8])
 {}
 
 /// The text of a plan has no fault and spells this plan, where its words are folded and of bytes 33 to 126, none the arrow, and
-/// its ids are below 2^64, each of one task, which the root reaches, and listed at most once.
+/// its ids are below 2^64, each of one task, which the root reaches, and listed at most once. Words and ids are so in each plan
+/// that a text spells.
 pub fn printed_plans_are_read_back()
-    ensures { PrintableHPlansAreReadBack }
+    ensures back { PrintableHPlansAreReadBack }
+    ensures printable { SpelledHPlansArePrintable }
 {}
