@@ -15,4 +15,5 @@ pub mod PrintedWords
 pub mod PrintedRows
 pub mod ReadBack
 pub mod SpelledWords
+pub mod SpelledSound
 pub mod examples

@@ -71,3 +71,7 @@ PrintableHPlansAreReadBack = (plan : HPlan) → IsPrintableHPlan plan → IsSoun
 -- The words and the ids of a plan that a text spells are printable.
 abbrev pub SpelledHPlansArePrintable : Type 0
 SpelledHPlansArePrintable = (text : List ℕ) (plan : HPlan) → SpellsHPlan text plan → IsPrintableHPlan plan
+
+-- A plan that is read of a text is sound.
+abbrev pub ReadHPlansAreSound : Type 0
+ReadHPlansAreSound = (text : List ℕ) (plan : HPlan) → IsHPlanRead text plan → IsSoundHPlan plan
