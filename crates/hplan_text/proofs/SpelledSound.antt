@@ -1,9 +1,7 @@
 -- The plan that is read of a text is sound.
-use Rattle.std.proofs.Common.{ℕ, zero, suc, ◌≡◌, ◌∙◌, ◌+◌, ◌<◌, ◌≤◌, ◌⊎◌, inl, inr, ◌==◌, ◌||◌, Bool, true, false, not, cond, Option, Some, None, List, [], ◌∷◌, ◌++◌, map, length, refl, sym, ap, ap₂, subst, arith}
-use Rattle.std.specs.BTreeMap.{is_at}
+use Rattle.std.proofs.Common.{ℕ, zero, suc, ◌≡◌, ◌∙◌, ◌+◌, ◌≤◌, ◌⊎◌, inl, inr, ◌==◌, ◌||◌, Bool, true, false, not, cond, Option, Some, None, List, [], ◌∷◌, ◌++◌, map, length, refl, sym, ap, subst, arith}
 use Rattle.std.specs.BTreeSet.{BTreeSet}
-use Rattle.std.specs.List.{filter_map, list_any}
-use Rattle.std.specs.Ordering.{nat_cmp}
+use Rattle.std.specs.List.{filter_map}
 use Rattle.std.specs.Prelude.{Contains}
 use Rattle.std.proofs.lemmas.Bool.{eq-eqb, ne_eqb}
 use Rattle.std.proofs.lemmas.Bool.Decides.{eqb_tells}
@@ -19,7 +17,6 @@ use Rattle.hplan_text.specs.Rows.{Row, bad, top, primitive, decomposed, number, 
 use Rattle.hplan_text.specs.SpellsHPlan.{rows, own_ids, all_listed, tops, first_top, plan_of}
 use Rattle.hplan_text.specs.HPlanFaults.{is_among, put_if, repeats_behind, repeats, others, faults_at, id_faults, faults_of_ids, Reaches, IsUnreached, IsTreeFault}
 use Rattle.hplan_text.specs.Walks.{FindsNode, AreOnce, has, HasReached, ids_of, Visits}
-use Rattle.hplan_text.specs.Reading.{IsHPlanRead}
 use Rattle.hplan_text.specs.Printable.{line_id, node_id, task_ids, listed_by, all_ids, IsSoundHPlan, ReadHPlansAreSound}
 use Rattle.hplan_text.proofs.Judged.{nodes-once}
 use Rattle.hplan_text.proofs.LeastFound.{has-left, has-right}

@@ -1,5 +1,5 @@
 -- The words and ids of a plan that a text spells can be printed.
-use Rattle.std.proofs.Common.{ℕ, zero, suc, ◌≡◌, ◌∙◌, ◌+◌, ◌^◌, ◌<◌, ◌≤◌, ◌==◌, ◌&&◌, nat_lt, nat_le, Bool, true, false, not, Option, Some, None, List, [], ◌∷◌, map, length, codes, refl, sym, ap, ap₂, subst, inl, inr, arith}
+use Rattle.std.proofs.Common.{ℕ, ◌≡◌, ◌∙◌, ◌^◌, ◌<◌, ◌==◌, ◌&&◌, nat_lt, nat_le, Bool, true, false, not, Option, Some, None, List, [], ◌∷◌, map, length, codes, refl, sym, ap₂, subst, arith}
 use Rattle.std.specs.Char.{is_ascii_digit, to_ascii_lowercase}
 use Rattle.std.specs.List.{filter_map, cons_option, list_all}
 use Rattle.std.specs.Str.{bytes_eq}
@@ -12,10 +12,9 @@ use Rattle.htn_base.specs.Words.{folded}
 use Rattle.plan_texts.specs.Types.{EachIs}
 use Rattle.plan_texts.proofs.Members.{length-map}
 use Rattle.hplan_text.specs.declared.mention.Mention.{Mention}
-use Rattle.hplan_text.specs.declared.values.HPlan.{HPlan}
-use Rattle.hplan_text.specs.Lines.{Piece, pieces, is_blank, is_line_end, Said, said_by, said, Line, some_line, line_words, line_of, lines_from, Marked, with_line, ends_plan, end_or, up_to_end, begins_plan, begin_or, behind_begin, marked}
-use Rattle.hplan_text.specs.Rows.{Row, bad, top, primitive, decomposed, is_id, mention, are_ids, is_word_byte, is_arrow, is_name, Named, with_name, named, top_row, node_row, task_row, row_by, is_root, row, number, primitive_line, top_ids, node}
-use Rattle.hplan_text.specs.SpellsHPlan.{rows, tops, first_top, plan_of, SpellsHPlan}
+use Rattle.hplan_text.specs.Lines.{Piece, pieces, is_blank, is_line_end, Said, said_by, said, Line, some_line, line_words, line_of, lines_from, Marked, ends_plan, end_or, up_to_end, begins_plan, begin_or, behind_begin}
+use Rattle.hplan_text.specs.Rows.{Row, bad, top, primitive, decomposed, is_id, mention, are_ids, is_word_byte, is_arrow, is_name, Named, with_name, named, top_row, node_row, task_row, row_by, is_root, row, number, primitive_line, node}
+use Rattle.hplan_text.specs.SpellsHPlan.{rows, tops, first_top, plan_of}
 use Rattle.hplan_text.specs.Printable.{IsPrintableWord, IsSmall, IsPrintableLine, IsPrintableNode, IsPrintableHPlan, SpelledHPlansArePrintable}
 use Rattle.hplan_text.proofs.PrintedRows.{first-of, second-of}
 

@@ -33,7 +33,7 @@ pub record IsPrintableNode (node : HNode) : Type 0 where
   pub method : IsPrintableWord node.method
   pub ids : EachIs IsSmall node.ids
 
--- its words can be read again, and its ids
+-- each name, argument and method is a printable word, and each id has 64 bits
 pub record IsPrintableHPlan (plan : HPlan) : Type 0 where
   pub primitives : EachIs IsPrintableLine plan.primitives
   pub root : EachIs IsSmall plan.root

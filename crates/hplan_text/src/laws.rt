@@ -7,9 +7,9 @@ pub fn a_text_spells_one_hplan(text: &[u8])
     ensures { SpellsOneHPlan text.now }
 {}
 
-/// The text of a plan has no fault and spells this plan, where its words are folded and of bytes 33 to 126, none the arrow, and
-/// its ids are below 2^64, each of one task, which the root reaches, and listed at most once. All this is so of each
-/// plan that is read of a text.
+/// The text of a plan has no fault and spells this plan, where its words are folded, of bytes 33 to 126 and not the arrow, and
+/// its ids are below 2^64, each of one task, which the root reaches, and listed at most once. All this is so of each plan that
+/// is read of a text.
 pub fn printed_plans_are_read_back()
     ensures back { PrintableHPlansAreReadBack }
     ensures printable { SpelledHPlansArePrintable }
