@@ -11,4 +11,9 @@ pub mod Walked
 pub mod ReadLines
 pub mod Judged
 pub mod OneHPlan
+pub mod PrintedWords
+pub mod PrintedRows
+pub mod ReadBack
+pub mod SpelledWords
+pub mod SpelledSound
 pub mod examples

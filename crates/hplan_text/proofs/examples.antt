@@ -1,1 +1,2 @@
 mod HPlanRows
+mod PrintableRows

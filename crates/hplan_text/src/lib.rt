@@ -20,7 +20,7 @@ mod rows;
 mod values;
 mod words;
 
-pub use laws::a_text_spells_one_hplan;
+pub use laws::{a_text_spells_one_hplan, printed_plans_are_read_back};
 pub use printing::print;
 pub use reading::read;
 pub use values::{HLine, HNode, HPlan};
