@@ -11,4 +11,5 @@ pub mod Walked
 pub mod ReadLines
 pub mod Judged
 pub mod OneHPlan
+pub mod ShownOnce
 pub mod examples

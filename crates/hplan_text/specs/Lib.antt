@@ -10,3 +10,4 @@ pub mod Drafts
 pub mod Sets
 pub mod Walks
 pub mod ShownPlan
+pub mod ShownLaws

@@ -17,10 +17,12 @@ mod printing;
 mod reaching;
 mod reading;
 mod rows;
+mod showing;
 mod values;
 mod words;
 
 pub use laws::a_text_spells_one_hplan;
 pub use printing::print;
 pub use reading::read;
+pub use showing::each_tree_shows_one_plan;
 pub use values::{HLine, HNode, HPlan};
