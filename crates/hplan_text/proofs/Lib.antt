@@ -12,4 +12,7 @@ pub mod ReadLines
 pub mod Judged
 pub mod OneHPlan
 pub mod ShownOnce
+pub mod ShownRows
+pub mod ShownChildren
+pub mod ShownWhole
 pub mod examples

@@ -35,13 +35,13 @@ same_plans : (x y : HPlan) → x.primitives ≡ y.primitives → x.root ≡ y.ro
 same_plans x y e f g = λ i. record { primitives = e i; root = f i; nodes = g i }
 
 module _ (c : Compiled) where
-  primitive_label : (o : Option (Label (network c))) → is_primitive c o ≡ true → (w : Work) × (o ≡ Some (ran w))
+  pub primitive_label : (o : Option (Label (network c))) → is_primitive c o ≡ true → (w : Work) × (o ≡ Some (ran w))
   primitive_label (Some (ran w)) e = (w, refl)
   primitive_label (Some (waits w)) e = absurd cc
   primitive_label (Some (used g)) e = absurd cc
   primitive_label None e = absurd cc
 
-  lower_label : (p : Address) (o : Option (Label (network c))) → is_lower c p o ≡ true → (g : GroundMethod) × (o ≡ Some (used g))
+  pub lower_label : (p : Address) (o : Option (Label (network c))) → is_lower c p o ≡ true → (g : GroundMethod) × (o ≡ Some (used g))
   lower_label [] o e = absurd cc
   lower_label (i ∷ q) (Some (used g)) e = (g, refl)
   lower_label (i ∷ q) (Some (ran w)) e = absurd cc
@@ -52,7 +52,7 @@ module _ (c : Compiled) where
     different : AreDifferent order
     different = once (network c) tree order f.front.schedule order [] (sym (append-nil order))
 
-    numbered_once : AreDifferent (numbered c tree order)
+    pub numbered_once : AreDifferent (numbered c tree order)
     numbered_once = different_append (primitives_in c tree order) (lower_in c tree order)
         (different-filter (λ p. is_primitive c (label_at (network c) tree p)) order different)
         (different-filter (λ p. is_lower c p (label_at (network c) tree p)) order different)
@@ -65,7 +65,7 @@ module _ (c : Compiled) where
         ))
 
     -- a decomposed node's children are nodes
-    split_at : (q : Address) (g : GroundMethod) → label_at (network c) tree q ≡ Some (used g) → (ts : Trees (network c)) × (at (network c) tree q ≡ Some (split g ts))
+    pub split_at : (q : Address) (g : GroundMethod) → label_at (network c) tree q ≡ Some (used g) → (ts : Trees (network c)) × (at (network c) tree q ≡ Some (split g ts))
     split_at q g e = go (at (network c) tree q) refl e
       where
         go : (o : Option (Tree (network c))) → at (network c) tree q ≡ o → option_map (label (network c)) o ≡ Some (used g) → (ts : Trees (network c)) × (at (network c) tree q ≡ Some (split g ts))
@@ -83,18 +83,18 @@ module _ (c : Compiled) where
         go (Some (done v)) a e = a ∙ ap (λ z. Some (done z)) (let x : v ≡ w = cc in x)
         go (Some (split h ts)) a e = absurd cc
 
-    child_address : (q : Address) (g : GroundMethod) (i : ℕ) → label_at (network c) tree q ≡ Some (used g) → i < count (network c) g → IsAddress (network c) tree (i ∷ q)
+    pub child_address : (q : Address) (g : GroundMethod) (i : ℕ) → label_at (network c) tree q ≡ Some (used g) → i < count (network c) g → IsAddress (network c) tree (i ∷ q)
     child_address q g i e l =
         let (ts, a) = split_at q g e in
         let ws = (grown_at (network c) tree q (split g ts) f.front.grown a).1 in
         let x = child_in (network c) ts i (subst (λ z. i < length z) (sym ws) l) in
         (label (network c) x.0, ap (option_map (label (network c))) (child_below (network c) tree i q g ts a ∙ x.1))
 
-    abbrev Numbered : Address → Type 0
+    abbrev pub Numbered : Address → Type 0
     Numbered p = (n : ℕ) × (slice_get (numbered c tree order) n ≡ Some p)
 
     -- a shown node other than the root has a number
-    has_number : (i : ℕ) (q : Address) → IsAddress (network c) tree (i ∷ q) → is_shown c (label_at (network c) tree (i ∷ q)) ≡ true → Numbered (i ∷ q)
+    pub has_number : (i : ℕ) (q : Address) → IsAddress (network c) tree (i ∷ q) → is_shown c (label_at (network c) tree (i ∷ q)) ≡ true → Numbered (i ∷ q)
     has_number i q (l, e) s = go l e
       where
         listed : (l : Label (network c)) → label_at (network c) tree (i ∷ q) ≡ Some l → IsTaken (network c) l → Contains order (i ∷ q)
@@ -171,7 +171,7 @@ module _ (c : Compiled) where
     one_nodes n (p ∷ ps) (x ∷ xs) [] a d = absurd d
     one_nodes n (p ∷ ps) (x ∷ xs) (y ∷ ys) (a, h) (d, k) = let e = one_node n p x y a d in let r = one_nodes (suc n) ps xs ys h k in λ i. e i ∷ r i
 
-    root_used : (g : GroundMethod) × (label_at (network c) tree [] ≡ Some (used g))
+    pub root_used : (g : GroundMethod) × (label_at (network c) tree [] ≡ Some (used g))
     root_used = go tree refl
       where
         go : (t : Tree (network c)) → tree ≡ t → (g : GroundMethod) × (label_at (network c) tree [] ≡ Some (used g))

@@ -11,3 +11,4 @@ pub mod Sets
 pub mod Walks
 pub mod ShownPlan
 pub mod ShownLaws
+pub mod Showing
