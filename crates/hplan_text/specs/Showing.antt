@@ -1,4 +1,5 @@
 -- What is shown of a tree by its rows: the names of labels, the numbered places, and the lists of ids.
+-- Source: this project's.
 use Rattle.std.specs.Prelude.{ℕ, zero, suc, ◌≡◌, ◌+◌, ◌<◌, List, [], ◌∷◌, ◌++◌, map, filter, Bool, true, false, slice_get, Option, Some, None}
 use Rattle.plan_model.specs.declared.values.Compiled.{Compiled}
 use Rattle.plan_model.specs.task_networks.Net.{count}
@@ -8,18 +9,12 @@ use Rattle.plan_model.specs.task_networks.Front.{IsFinished}
 use Rattle.plan_model.specs.task_networks.Preorder.{preorder}
 use Rattle.plan_model.specs.plan_meaning.Network.{Work, action, check, task, GroundMethod, network}
 use Rattle.plan_model.specs.plan_meaning.Solution.{top_work}
-use Rattle.tree_core.specs.declared.growth.Scheduled.{Scheduled}
 use Rattle.tree_core.specs.Tables.{Row, table}
 use Rattle.tree_core.specs.Labels.{labels, labelled}
-use Rattle.tree_core.specs.Runs.{label_in, StandsFor}
+use Rattle.tree_core.specs.Runs.{label_in}
 use Rattle.hplan_text.specs.declared.values.HLine.{HLine}
 use Rattle.hplan_text.specs.declared.values.HNode.{HNode}
-use Rattle.hplan_text.specs.declared.values.HPlan.{HPlan}
-use Rattle.hplan_text.specs.ShownPlan.{object_name, name_of, method_name_by, is_shown, numbered, AreIds, shown_children, ShowsHPlan}
-
--- the plan is that of each finished tree and schedule for which the run stands
-abbrev pub IsShown : Compiled → Scheduled → HPlan → Type 0
-IsShown c run plan = (tree : Tree (network c)) (order : List Address) → IsFinished (network c) (top_work c) tree order → StandsFor c run tree order → ShowsHPlan c tree order plan
+use Rattle.hplan_text.specs.ShownPlan.{object_name, name_of, method_name_by, is_shown, numbered, AreIds, shown_children}
 
 abbrev pub is_primitive_label : Option (Label labels) → Bool
 is_primitive_label (Some (ran (action a args))) = true

@@ -1,8 +1,8 @@
 ghost use Rattle.std.specs.Prelude.{ℕ, ◌≡◌, ◌+◌, ◌<◌, ◌≤◌, ◌++◌, [], ◌∷◌, true, false, Some, length, drop, map, slice_get, IfOk, OnOk};
 ghost use Rattle.tree_core.specs.Runs.{label_in, end_in};
-ghost use Rattle.hplan_text.specs.ShownLaws.{EachIsShownOnce};
+ghost use Rattle.hplan_text.specs.ShownLaws.{EachIsShownOnce, IsShown};
 ghost use Rattle.hplan_text.specs.ShownPlan.{source_word, object_name};
-ghost use Rattle.hplan_text.specs.Showing.{IsShown, is_primitive_label, is_decomposed_label, is_check_label, is_lower_place, label_name, label_args, label_line, label_method, primitives_among, lower_among, HaveNumbers, ListsChildren, lines_at, IsNodeAt, AreNodesAt};
+ghost use Rattle.hplan_text.specs.Showing.{is_primitive_label, is_check_label, is_lower_place, label_name, label_args, label_line, label_method, primitives_among, lower_among, HaveNumbers, ListsChildren, lines_at, IsNodeAt, AreNodesAt};
 
 use crate::values::{HLine, HNode, HPlan};
 use htn_base::{List, Memory, Name, Text};
@@ -52,22 +52,6 @@ fn is_primitive(tree: &Tree, place: u32) -> bool
     }
 }
 
-fn is_abstract(tree: &Tree, place: u32) -> bool
-    ensures { result ≡ is_decomposed_label (label_in tree.now place) }
-{
-    match tree.label(place) {
-        Some(
-            Label::Abstract {
-                task: _,
-                args: _,
-                method: _,
-                method_args: _,
-            },
-        ) => true,
-        _ => false,
-    }
-}
-
 fn is_check(tree: &Tree, place: u32) -> bool
     ensures { result ≡ is_check_label (label_in tree.now place) }
 {
@@ -81,7 +65,17 @@ fn is_check(tree: &Tree, place: u32) -> bool
 fn is_lower(tree: &Tree, place: u32) -> bool
     ensures { result ≡ is_lower_place place (label_in tree.now place) }
 {
-    place > 0 && is_abstract(tree, place)
+    match tree.label(place) {
+        Some(
+            Label::Abstract {
+                task: _,
+                args: _,
+                method: _,
+                method_args: _,
+            },
+        ) => place > 0,
+        _ => false,
+    }
 }
 
 // Puts the addresses of the primitives, in the order.
@@ -261,16 +255,9 @@ fn put_child(tree: &Tree, ids: &[u64], at: u32, list: &mut List<u64>) -> Result<
     if is_check(tree, at) {
         return Ok(());
     }
-    list.push(id_at(ids, at))
-}
-
-// The number at an address.
-fn id_at(ids: &[u64], at: u32) -> u64
-    ensures { (n : ℕ) → slice_get ids.now at ≡ Some n → result ≡ n }
-{
     match ids.get(at as usize) {
-        Some(id) => *id,
-        None => 0,
+        Some(id) => list.push(*id),
+        None => Ok(()),
     }
 }
 
