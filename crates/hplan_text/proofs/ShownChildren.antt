@@ -7,7 +7,7 @@ use Rattle.plan_model.specs.task_networks.Tree.{Tree, Trees, none, more, split, 
 use Rattle.plan_model.specs.task_networks.Front.{IsFinished}
 use Rattle.plan_model.specs.task_networks.Preorder.{preorder}
 use Rattle.plan_model.specs.task_networks.Spelling.{numbers}
-use Rattle.plan_model.specs.plan_meaning.Network.{Work, action, check, task, GroundMethod, network}
+use Rattle.plan_model.specs.plan_meaning.Network.{action, check, task, GroundMethod, network}
 use Rattle.plan_model.specs.plan_meaning.Solution.{top_work}
 use Rattle.plan_model.proofs.task_networks.Nodes.{grown_at, child_below}
 use Rattle.tree_core.specs.Tables.{Row, table, IsRow}

@@ -1,11 +1,11 @@
 -- What the passes over the order give is the plan that is shown.
-use Rattle.std.proofs.Common.{ℕ, zero, suc, ◌≡◌, ◌+◌, ◌<◌, ◌≤◌, List, [], ◌∷◌, ◌++◌, length, map, filter, drop, Bool, true, false, Option, Some, None, option_map, slice_get, refl, ap, sym, subst, ◌∙◌, Contains, arith}
+use Rattle.std.proofs.Common.{ℕ, zero, suc, ◌≡◌, List, [], ◌∷◌, ◌++◌, length, map, drop, true, Option, Some, None, option_map, slice_get, refl, ap, sym, subst, ◌∙◌, Contains, arith}
 use Rattle.std.proofs.Math.Seq.{drop-append_seam}
 use Rattle.plan_model.specs.declared.values.Compiled.{Compiled}
 use Rattle.plan_model.specs.task_networks.Tree.{Tree, open_leaf, done, split, Label, waits, ran, used, Address, label_at}
 use Rattle.plan_model.specs.task_networks.Front.{IsFinished}
 use Rattle.plan_model.specs.task_networks.Preorder.{preorder}
-use Rattle.plan_model.specs.plan_meaning.Network.{Work, action, check, task, GroundMethod, network}
+use Rattle.plan_model.specs.plan_meaning.Network.{Work, action, check, task, network}
 use Rattle.plan_model.specs.plan_meaning.Solution.{top_work}
 use Rattle.plan_model.proofs.task_networks.Filters.{filter_to}
 use Rattle.plan_model.proofs.task_networks.Lists.{Contains-here, Contains-later}
@@ -17,9 +17,8 @@ use Rattle.tree_core.proofs.Gets.{get_within, one_place}
 use Rattle.tree_core.proofs.Siblings.{one_node_place}
 use Rattle.hplan_text.specs.declared.values.HLine.{HLine}
 use Rattle.hplan_text.specs.declared.values.HNode.{HNode}
-use Rattle.hplan_text.specs.declared.values.HPlan.{HPlan}
 use Rattle.hplan_text.specs.ShownPlan.{object_name, name_of, line_of, is_primitive, is_decomposed, is_lower, primitives_in, lower_in, numbered, ArePrimitives, AreNodes, ShowsHPlan}
-use Rattle.hplan_text.specs.Showing.{is_primitive_label, is_decomposed_label, is_lower_place, label_line, label_method, args_of, primitives_among, lower_among, HaveNumbers, AreIndexed, ListsChildren, lines_at, IsNodeAt, AreNodesAt}
+use Rattle.hplan_text.specs.Showing.{is_primitive_label, is_decomposed_label, is_lower_place, label_line, label_method, args_of, primitives_among, lower_among, HaveNumbers, AreIndexed, ListsChildren, lines_at, AreNodesAt}
 use Rattle.hplan_text.proofs.ShownOnce.{numbered_once, primitive_label, lower_label, root_used}
 use Rattle.hplan_text.proofs.ShownRows.{selected}
 use Rattle.hplan_text.proofs.ShownChildren.{node_row, label_here}

@@ -1,4 +1,3 @@
-use Rattle.std.proofs.Common.{◌≡◌, ◌∙◌, ap, sym, subst}
 use Rattle.hplan_text.proofs.ShownChildren.{starts, goes_on, ends}
 use Rattle.hplan_text.proofs.showing.child_ids.Goals as goal
 

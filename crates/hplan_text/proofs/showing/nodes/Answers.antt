@@ -1,4 +1,4 @@
-use Rattle.std.proofs.Common.{◌≡◌, ◌∙◌, drop, [], append-nil, sym, subst, arith}
+use Rattle.std.proofs.Common.{drop, [], append-nil, sym, subst}
 use Rattle.hplan_text.specs.Showing.{AreNodesAt}
 use Rattle.std.proofs.Math.ListN.{drop_of_length-le}
 use Rattle.hplan_text.proofs.showing.nodes.Goals as goal

@@ -1,4 +1,4 @@
-use Rattle.std.proofs.Common.{◌≡◌, ◌∙◌, ◌++◌, length, drop, ap, sym, subst}
+use Rattle.std.proofs.Common.{◌∙◌, ◌++◌, length, drop, ap, subst}
 use Rattle.hplan_text.specs.Showing.{primitives_among, lower_among, HaveNumbers, ListsChildren, lines_at, AreNodesAt}
 use Rattle.hplan_text.proofs.ShownWhole.{whole}
 use Rattle.hplan_text.proofs.showing.show.Goals as goal

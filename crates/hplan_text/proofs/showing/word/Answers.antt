@@ -1,5 +1,4 @@
-use Rattle.std.proofs.Common.{ℕ, zero, suc, ◌≡◌, ◌∙◌, List, [], ◌∷◌, Option, None, slice_get, slice_index_or, refl, ap, sym}
-use Rattle.std.specs.Option.{option_copied}
+use Rattle.std.proofs.Common.{ℕ, zero, suc, ◌≡◌, ◌∙◌, List, [], ◌∷◌, None, slice_get, slice_index_or, refl, sym}
 use Rattle.hplan_text.proofs.showing.word.Goals as goal
 
 missing : (words : List (List ℕ)) (n : ℕ) → slice_get words n ≡ None → slice_index_or words n [] ≡ []
