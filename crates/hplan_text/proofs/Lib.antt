@@ -16,4 +16,8 @@ pub mod PrintedRows
 pub mod ReadBack
 pub mod SpelledWords
 pub mod SpelledSound
+pub mod ShownOnce
+pub mod ShownRows
+pub mod ShownChildren
+pub mod ShownWhole
 pub mod examples

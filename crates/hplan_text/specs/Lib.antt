@@ -11,3 +11,5 @@ pub mod Sets
 pub mod Walks
 pub mod ShownPlan
 pub mod Printable
+pub mod ShownLaws
+pub mod Showing
