@@ -179,7 +179,7 @@ module _ (c : Compiled) where
         found = all m.number plan ground.is
 
         same : later_list ≡ after found.0 g.child
-        same = sym (found.2 g.child)
+        same = sym (found.2.after_each g.child)
 
         may : MayLower x later_list front
         may = record {
