@@ -3,3 +3,4 @@ pub mod LaterLaws
 pub mod SlotLaws
 pub mod Lowering
 pub mod Walking
+pub mod Planting

@@ -3,7 +3,8 @@
 //!
 //! Stands on `plan_model`, `tree_core` and the laws of `decoding`. A leaf waits exactly where its number isn't 0, and a subtree
 //! that becomes whole counts down what it precedes, so nothing walks over pending tasks. Here are the front of the top task, the
-//! lists, what comes right before and right after each child of a method (`Later`), and the way up from a growth that is whole.
+//! lists, what comes right before and right after each child of a method (`Later`), the planting of children in their slots, and
+//! the way up from a growth that is whole.
 #![tactic(auto)]
 
 mod front;
