@@ -1,4 +1,5 @@
-ghost use Rattle.std.specs.Prelude.{ℕ, List as Items, ◌≡◌, ◌≤◌, ◌++◌, ◌∷◌, [], IfOk};
+ghost use Rattle.std.specs.Prelude.{ℕ, List as Items, ◌≡◌, ◌≤◌, ◌<◌, ◌^◌, ◌+◌, ◌++◌, ◌∷◌, [], length, All, IfOk, OnOk};
+ghost use Rattle.htn_base.specs.Different.{AreDifferent};
 ghost use Rattle.std.specs.Option.{option_copied};
 ghost use Rattle.plan_model.specs.task_networks.Spelling.{Act};
 ghost use Rattle.plan_model.specs.task_networks.Lawful.{IsLawful};
@@ -120,5 +121,32 @@ impl Front {
             }
             whole = parent;
         }
+    }
+
+    /// The leaf of the slot grows, and its children stand in these slots.
+    fn grow(
+        &mut self,
+        leaf: Leaf,
+        slot: u32,
+        slots: Vec<u32>,
+        label: Label,
+        later: Option<&Later>,
+    ) -> Result<(), Memory>
+        requires slot { (1 ≤ slot) × (slot ≤ room self.old.leaves) }
+        requires slots { All (λ x. (1 ≤ x) × (x ≤ room self.old.leaves)) slots.items }
+        requires different { AreDifferent slots.items }
+        requires few { length slots.items < 2 ^ 32 }
+        requires few_growths { length self.old.growths < 2 ^ 32 }
+        ensures { OnOk result (spec.IsGrownAt leaf slot slots.items label (option_copied later.entry) self.old self.new) }
+    {
+        let growth = self.growths.len() as u32;
+        self.leaves.regrow(slot, growth, slots.as_slice(), later);
+        self.nodes.push(slots)?;
+        self.growths.push(Growth {
+            parent: leaf.parent,
+            child: leaf.child,
+            label,
+        })?;
+        Ok(())
     }
 }

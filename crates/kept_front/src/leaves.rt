@@ -1,7 +1,8 @@
 ghost use Rattle.std.specs.Prelude.{ℕ, ◌≡◌, ◌≢◌, ◌+◌, ◌≤◌, ◌<◌, ◌^◌, length, All, IfOk, None};
+ghost use Rattle.std.specs.Option.{option_copied};
 ghost use Rattle.htn_base.specs.Different.{AreDifferent};
 ghost use Rattle.kept_front.specs.Leaves as spec;
-ghost use Rattle.kept_front.specs.Planted.{ArePlanted};
+ghost use Rattle.kept_front.specs.Planted.{ArePlanted, AreRegrown};
 
 use crate::later::Later;
 use htn_base::Memory;
@@ -90,6 +91,22 @@ impl Leaves {
                 blocked: later.before(child),
             };
             self.put(*slot, Some(leaf));
+        }
+    }
+
+    /// The leaf of a slot grows: its slot is given up, and its children are put into theirs.
+    #[tactic(auto, using(crate::proofs::Planting::regrown, crate::proofs::Planting::given_up))]
+    pub(crate) fn regrow(&mut self, slot: u32, growth: u32, slots: &[u32], later: Option<&Later>)
+        requires slot { (1 ≤ slot) × (slot ≤ spec.room self.old) }
+        requires slots { All (λ x. (1 ≤ x) × (x ≤ spec.room self.old)) slots.now }
+        requires different { AreDifferent slots.now }
+        requires few { length slots.now < 2 ^ 32 }
+        ensures room { spec.room self.new ≡ spec.room self.old }
+        ensures grown { AreRegrown slot growth slots.now (option_copied later.entry) self.old self.new }
+    {
+        self.put(slot, None);
+        if let Some(later) = later {
+            self.plant(growth, slots, later);
         }
     }
 }
