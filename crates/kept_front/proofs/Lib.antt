@@ -4,3 +4,4 @@ pub mod SlotLaws
 pub mod Lowering
 pub mod Walking
 pub mod Planting
+pub mod Taking

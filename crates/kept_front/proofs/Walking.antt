@@ -72,7 +72,7 @@ module _ (c : Compiled) where
   abbrev N : Net
   N = network c
 
-  method_is : (l : Label) (m : GroundMethod) → label_in c l ≡ used m → method_of l ≡ Some m.number
+  pub method_is : (l : Label) (m : GroundMethod) → label_in c l ≡ used m → method_of l ≡ Some m.number
   method_is (Primitive a args) m e = absurd cc
   method_is (Check k values) m e = absurd cc
   method_is (Abstract t args k values) m e = let f : record { number = k; values = values } ≡ m = cc in ap (λ (z : GroundMethod). Some z.number) f
@@ -87,7 +87,7 @@ module _ (c : Compiled) where
   by_place growths (Some x) None e = absurd cc
   by_place growths (Some x) (Some y) e = ap (option_map (at_place_in growths)) e
 
-  pair_of : (m : GroundMethod) (plan : MethodPlan) → slice_get c.methods m.number ≡ Some plan → (i j : ℕ) → N.Pair m i j ↔ Pairs plan.schema.pairs i j
+  pub pair_of : (m : GroundMethod) (plan : MethodPlan) → slice_get c.methods m.number ≡ Some plan → (i j : ℕ) → N.Pair m i j ↔ Pairs plan.schema.pairs i j
   pair_of m plan e i j =
       let P : Option MethodPlan → Type 0 = λ o. MatchOption o ⊥ (λ (plan : MethodPlan). Pairs plan.schema.pairs i j) in
       (subst P e, subst P (sym e))

@@ -12,6 +12,7 @@ ghost use Rattle.kept_front.specs.Fronts as spec;
 use crate::later::Later;
 use crate::leaves::{Leaf, Leaves};
 use crate::nodes::Nodes;
+use crate::slots::child_slots;
 use htn_base::{List, Memory};
 use plan_model::Compiled;
 use std::alloc::Global;
@@ -148,5 +149,58 @@ impl Front {
             label,
         })?;
         Ok(())
+    }
+
+    /// Takes an act at the slot, with these new slots: its leaf grows, with this label. Where there are no children, it goes up
+    /// as far as what stands above becomes whole. After an `Err` the front is of no use.
+    pub fn take(
+        &mut self,
+        alloc: Global,
+        c: &Compiled,
+        later: &[Later],
+        slot: u32,
+        new: &[u32],
+        label: Label,
+    ) -> Result<(), Memory>
+        requires lawful { IsLawful (network c.now) }
+        requires later { AreAllLater c.now later.now }
+        requires few_new { length new.now + 1 < 2 ^ 32 }
+        requires few_growths { length self.old.growths < 2 ^ 32 }
+        requires may { spec.MayTakeSome c.now self.old slot new.now label }
+        ensures taken { OnOk result ((b : ℕ) (acts : Items (Act (network c.now))) (a : Act (network c.now))
+            → spec.MayTakeAt c.now b self.old acts a slot new.now label → spec.IsFrontOf c.now b self.new (acts ++ a ∷ [])) }
+    {
+        let Some(leaf) = self.leaves.at(slot) else {
+            return Ok(());
+        };
+        let growth = self.growths.len() as u32;
+        let slots = child_slots(alloc, heir(c, &label), slot, new)?;
+        let childless = slots.len() == 0;
+        let known = known(later, &label);
+        self.grow(leaf, slot, slots, label, known)?;
+        if childless {
+            self.walk(c, later, growth);
+        }
+        Ok(())
+    }
+}
+
+/// The child that takes the slot of what is decomposed.
+fn heir(c: &Compiled, label: &Label) -> Option<u32>
+    ensures { result ≡ spec.heir_of c.now label.now }
+{
+    match label {
+        Label::Abstract { method, .. } => c.methods.get(*method as usize)?.heir,
+        _ => None,
+    }
+}
+
+/// What comes right after and before each child of what is decomposed.
+fn known<'l>(later: &'l [Later], label: &Label) -> Option<&'l Later>
+    ensures { option_copied result ≡ spec.later_of later.now label.now }
+{
+    match label {
+        Label::Abstract { method, .. } => later.get(*method as usize),
+        _ => None,
     }
 }

@@ -1,10 +1,9 @@
 //! What a decoder keeps of a front: its growths, the open leaf of each slot with the number of its direct predecessors that are not
 //! whole, and for each decomposed task the slots of its children and how many of these are not whole.
 //!
-//! Stands on `plan_model`, `tree_core` and the laws of `decoding`. A leaf waits exactly where its number isn't 0, and a subtree
-//! that becomes whole counts down what it precedes, so nothing walks over pending tasks. Here are the front of the top task, the
-//! lists, what comes right before and right after each child of a method (`Later`), the planting of children in their slots, and
-//! the way up from a growth that is whole.
+//! Stands on `plan_model`, `tree_core` and the laws of `decoding`. The contract used above: `Front::take` takes an act at an open
+//! leaf, and keeps what is kept of the longer front. A leaf waits exactly where its number isn't 0, and a subtree that becomes
+//! whole counts down what it precedes, so nothing walks over pending tasks.
 #![tactic(auto)]
 
 mod front;
