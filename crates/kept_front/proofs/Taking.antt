@@ -2,7 +2,7 @@
 use Rattle.std.proofs.Common.{ℕ, Bool, zero, suc, ◌≡◌, ◌≢◌, ◌+◌, ◌<◌, ◌≤◌, ◌↔◌, ◌⊎◌, inl, inr, ◌==◌, eq-eqb, eqb-true, List, [], ◌∷◌, ◌++◌, map, filter, length, get_or, Option, Some, None, option_map, slice_get, slice_index, refl, ap, sym, subst, ◌∙◌, Contains, arith}
 use Rattle.std.specs.Prelude.{MatchOption}
 use Rattle.std.specs.Option.{IfSome, option_and_then, option_map_or, unwrap_or}
-use Rattle.std.proofs.lemmas.List.{length-map, map-append, nil_from_length}
+use Rattle.std.proofs.lemmas.List.{length-map, map-append, length-append, nil_from_length}
 use Rattle.std.proofs.lemmas.List.Elements.{Contains-get_or}
 use Rattle.std.proofs.lemmas.Option.{get_or_from_slice_get}
 use Rattle.htn_base.specs.Different.{AreDifferent}
@@ -43,8 +43,14 @@ use Rattle.kept_front.specs.Leaves.{room, leaf_at, blocked_in, blocked_at}
 use Rattle.kept_front.specs.Nodes.{unfinished_at, child_slot}
 use Rattle.kept_front.specs.Nodes as Nodes
 use Rattle.kept_front.specs.Later.{predecessors, before, AreLater, AreAllLater}
-use Rattle.kept_front.specs.Fronts.{label_in, growth_in, work_below, work_under, leaf_of, growths_in, kept, IsFrontOf, IsWholeAt, method_of, later_of, heir_of, IsGrownAt, MayTakeAt}
+use Rattle.kept_front.specs.Fronts.{label_in, growth_in, work_below, work_under, leaf_of, growths_in, kept, IsFrontOf, IsWholeAt, method_of, later_of, heir_of, IsGrownAt, StaysSized, MayTakeAt}
 use Rattle.kept_front.proofs.Walking.{pair_of, method_is}
+
+pub grown_sized : (leaf : Leaf) (slot : ℕ) (slots : List ℕ) (label : Label) (later : Option Later) (old next : Front) → IsGrownAt leaf slot slots label later old next → StaysSized old next
+grown_sized leaf slot slots label later old next g b s = record {
+  room = g.room ∙ s.room;
+  nodes = g.nodes.more ∙ ap (λ z. z + 1) s.nodes ∙ sym (ap length g.growths ∙ length-append old.growths (record { parent = leaf.parent; child = leaf.child; label = label } ∷ []));
+}
 
 -- those that come right before a child are those of the pairs
 different_firsts : (pairs : List Pair) (j : ℕ) → AreDifferent pairs → ((p : Pair) → Contains pairs p → p.then ≡ j) → AreDifferent (map (λ (p : Pair). p.first) pairs)
@@ -147,10 +153,10 @@ module _ (c : Compiled) where
     slot_is_held e = let f = own.1 in cc
 
     pub in_range : (1 ≤ slot) × (slot ≤ room front.leaves)
-    in_range = let s = may.may.formed.slot in let e = may.slot_is in let r = may.room in (omega arith, omega arith)
+    in_range = let s = may.may.formed.slot in let e = may.slot_is in let r = may.sized.room in (omega arith, omega arith)
 
     new_range : (x : ℕ) → Contains new x → (1 ≤ x) × (x ≤ room front.leaves)
-    new_range x k = let s = may.may.formed.new x (subst (λ z. Contains z x) (sym may.new_is) k) in let r = may.room in (s.0, (let l = s.1 in omega arith))
+    new_range x k = let s = may.may.formed.new x (subst (λ z. Contains z x) (sym may.new_is) k) in let r = may.sized.room in (s.0, (let l = s.1 in omega arith))
 
     -- the heir is one of the children
     few_others : (m : GroundMethod) → label_of N a ≡ used m → (k : ℕ) → N.heir m ≡ Some k → (k ≤ length new) × (suc (length new) ≡ count N m)
@@ -300,7 +306,7 @@ module _ (c : Compiled) where
               ∙ ap (λ z. unwrap_or z (task 0 [])) wk
 
       place : length (growths_in c front) ≡ Nodes.count front.nodes
-      place = many ∙ sym may.nodes
+      place = many ∙ sym may.sized.nodes
 
       grown : IsGrownBy N old now a may.leaf
       grown = record {

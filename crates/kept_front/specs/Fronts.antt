@@ -128,6 +128,14 @@ pub record IsGrownAt (leaf : Leaf) (slot : ℕ) (slots : List ℕ) (label : Labe
   pub leaves : AreRegrown slot (length old.growths) slots later old.leaves new.leaves
   pub nodes : IsPushed slots old.nodes new.nodes
 
+-- There is room for b slots, and something is kept of each growth.
+pub record IsSized (b : ℕ) (front : Front) : Type 0 where
+  pub room : room front.leaves ≡ b
+  pub nodes : count front.nodes ≡ length front.growths
+
+abbrev pub StaysSized : Front → Front → Type 0
+StaysSized old new = (b : ℕ) → IsSized b old → IsSized b new
+
 -- The front is that of the acts, and the act of a slot, new slots and a label can be taken there.
 pub record MayTakeAt (c : Compiled) (b : ℕ) (front : Front) (acts : List (Act (network c))) (a : Act (network c)) (slot : ℕ) (new : List ℕ) (label : Label) : Type 0 where
   pub keeps : IsFrontOf c b front acts
@@ -136,8 +144,7 @@ pub record MayTakeAt (c : Compiled) (b : ℕ) (front : Front) (acts : List (Act 
   pub slot_is : slot_in (network c) a ≡ slot
   pub new_is : new_in (network c) a ≡ new
   pub label_is : label_of (network c) a ≡ label_in c label
-  pub room : room front.leaves ≡ b
-  pub nodes : count front.nodes ≡ length front.growths
+  pub sized : IsSized b front
 
 -- the same of some acts and slots
 abbrev pub MayTakeSome : (c : Compiled) → Front → ℕ → List ℕ → Label → Type 0

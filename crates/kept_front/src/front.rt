@@ -39,7 +39,7 @@ impl Front {
     /// The front of the top task alone, in slot 1 of so many.
     pub fn new(alloc: Global, slots: u32) -> Result<Front, Memory>
         requires some { 1 ≤ slots }
-        ensures room { IfOk result (λ front. room front.leaves ≡ slots) }
+        ensures sized { IfOk result (spec.IsSized slots) }
         ensures first { IfOk result (λ front. (c : compiled) → spec.IsFirstOf c front) }
     {
         let mut leaves = Leaves::none(alloc, slots as usize)?;
@@ -67,6 +67,7 @@ impl Front {
     fn lower(&mut self, parent: u32, later: &[u32])
         requires may { spec.MayLower parent later.now self.old }
         ensures lowered { spec.IsLowered parent later.now self.old self.new }
+        ensures sized { spec.StaysSized self.old self.new }
     {
         for child in later {
             let slot = self.nodes.child_slot(parent, *child);
@@ -107,7 +108,8 @@ impl Front {
         requires lawful { IsLawful (network c.now) }
         requires later { AreAllLater c.now later.now }
         requires whole { spec.IsSomeWholeAt c.now self.old growth }
-        ensures { (b : ℕ) (acts : Items (Act (network c.now))) (a : Act (network c.now))
+        ensures sized { spec.StaysSized self.old self.new }
+        ensures front { (b : ℕ) (acts : Items (Act (network c.now))) (a : Act (network c.now))
             → spec.IsWholeAt c.now b self.old growth acts a → spec.IsFrontOf c.now b self.new (acts ++ a ∷ []) }
     {
         let mut whole = growth;
@@ -167,6 +169,7 @@ impl Front {
         requires few_new { length new.now + 1 < 2 ^ 32 }
         requires few_growths { length self.old.growths < 2 ^ 32 }
         requires may { spec.MayTakeSome c.now self.old slot new.now label }
+        ensures sized { OnOk result (spec.StaysSized self.old self.new) }
         ensures taken { OnOk result ((b : ℕ) (acts : Items (Act (network c.now))) (a : Act (network c.now))
             → spec.MayTakeAt c.now b self.old acts a slot new.now label → spec.IsFrontOf c.now b self.new (acts ++ a ∷ [])) }
     {
