@@ -1,6 +1,5 @@
 -- An act is taken: what the lists do is what is kept of the longer front.
-use Rattle.std.proofs.Common.{ℕ, Bool, zero, suc, ◌≡◌, ◌≢◌, ◌+◌, ◌<◌, ◌≤◌, ◌↔◌, ◌⊎◌, inl, inr, ◌==◌, eq-eqb, eqb-true, List, [], ◌∷◌, ◌++◌, map, filter, length, get_or, Option, Some, None, option_map, slice_get, slice_index, refl, ap, sym, subst, ◌∙◌, Contains, arith}
-use Rattle.std.specs.Prelude.{MatchOption}
+use Rattle.std.proofs.Common.{ℕ, Bool, zero, suc, ◌≡◌, ◌+◌, ◌<◌, ◌≤◌, inl, inr, ◌==◌, eq-eqb, eqb-true, List, [], ◌∷◌, ◌++◌, map, filter, length, get_or, Option, Some, None, option_map, slice_get, refl, ap, sym, subst, ◌∙◌, Contains, arith}
 use Rattle.std.specs.Option.{IfSome, option_and_then, option_map_or, unwrap_or}
 use Rattle.std.proofs.lemmas.List.{length-map, map-append, length-append, nil_from_length}
 use Rattle.std.proofs.lemmas.List.Elements.{Contains-get_or}
@@ -15,35 +14,33 @@ use Rattle.plan_model.specs.task_networks.Lawful.{IsLawful}
 use Rattle.plan_model.specs.task_networks.Tree as Trees
 use Rattle.plan_model.specs.task_networks.Tree.{ran, used, waits}
 use Rattle.plan_model.specs.task_networks.Spelling.{Act, run, apply, label_of, others}
-use Rattle.plan_model.specs.plan_meaning.Network.{Work, action, check, task, GroundMethod, network, IsGroundMethod}
+use Rattle.plan_model.specs.plan_meaning.Network.{Work, task, GroundMethod, network, IsGroundMethod}
 use Rattle.plan_model.specs.plan_meaning.Solution.{top_work}
 use Rattle.plan_model.proofs.task_networks.Lists.{Contains-here, Contains-later}
 use Rattle.plan_model.proofs.task_networks.Filters.{filter_to, to_filter, different-filter}
 use Rattle.plan_model.proofs.task_networks.OtherChildren.{rest_of}
-use Rattle.slot_machine.specs.Machine.{insert_at, with_heir}
+use Rattle.slot_machine.specs.Machine.{with_heir}
 use Rattle.slot_machine.proofs.Inserts.{length-insert_at, insert_cases, different-insert_at}
 use Rattle.slot_machine.proofs.OtherChildren.{map_cases, Contains-map, length-rest}
 use Rattle.tree_core.specs.declared.label.Label.{Label}
 use Rattle.tree_core.specs.declared.label.Label.TheVariants.{Primitive, Check, Abstract}
-use Rattle.tree_core.specs.declared.growth.Growth as Grown
 use Rattle.tree_core.specs.Growths.{Growth, IsUnder}
 use Rattle.tree_core.proofs.Gets.{get_left, get_right, get_within, get_some}
-use Rattle.decoding.specs.FailingAct.{slot_in, new_in, work_in, IsFormed, IsMet}
+use Rattle.decoding.specs.FailingAct.{slot_in, new_in, IsFormed, IsMet}
 use Rattle.decoding.specs.Waiting.{AreMany, works_below}
-use Rattle.decoding.specs.HeldLeaves as Held
-use Rattle.decoding.specs.HeldLeaves.{growth_of, IsChildSlot, AreHeldAfter}
+use Rattle.decoding.specs.HeldLeaves.{growth_of, IsChildSlot}
 use Rattle.decoding.specs.Counted.{AreNumberedNew, AreNumberedNone}
-use Rattle.decoding.specs.Keeping.{Kept, Keeps, KeepsWhole, MayTake, IsGrownBy}
+use Rattle.decoding.specs.Keeping.{Kept, IsGrownBy}
 use Rattle.decoding.proofs.Many.{same_many}
 use Rattle.decoding.proofs.KeptFronts.{keeps_with_children, keeps_without}
 use Rattle.kept_front.specs.declared.leaves.Leaf.{Leaf}
 use Rattle.kept_front.specs.declared.later.Later.{Later}
 use Rattle.kept_front.specs.declared.front.Front.{Front}
-use Rattle.kept_front.specs.Leaves.{room, leaf_at, blocked_in, blocked_at}
+use Rattle.kept_front.specs.Leaves.{room, leaf_at, blocked_in}
 use Rattle.kept_front.specs.Nodes.{unfinished_at, child_slot}
 use Rattle.kept_front.specs.Nodes as Nodes
-use Rattle.kept_front.specs.Later.{predecessors, before, AreLater, AreAllLater}
-use Rattle.kept_front.specs.Fronts.{label_in, growth_in, work_below, work_under, leaf_of, growths_in, kept, IsFrontOf, IsWholeAt, method_of, later_of, heir_of, IsGrownAt, StaysSized, MayTakeAt}
+use Rattle.kept_front.specs.Later.{predecessors, AreLater, AreAllLater}
+use Rattle.kept_front.specs.Fronts.{label_in, growth_in, work_below, work_under, leaf_of, growths_in, kept, IsFrontOf, IsWholeAt, later_of, heir_of, IsGrownAt, StaysSized, MayTakeAt}
 use Rattle.kept_front.proofs.Walking.{pair_of, method_is}
 
 pub grown_sized : (leaf : Leaf) (slot : ℕ) (slots : List ℕ) (label : Label) (later : Option Later) (old next : Front) → IsGrownAt leaf slot slots label later old next → StaysSized old next

@@ -11,7 +11,6 @@ use Rattle.plan_model.specs.declared.values.Compiled.{Compiled}
 use Rattle.plan_model.specs.Pairs.{pair, Pairs}
 use Rattle.plan_model.specs.task_networks.Net.{Net}
 use Rattle.plan_model.specs.task_networks.Lawful.{IsLawful}
-use Rattle.plan_model.specs.task_networks.Tree as Trees
 use Rattle.plan_model.specs.task_networks.Tree.{split, used, Address, label_at}
 use Rattle.plan_model.specs.task_networks.Spelling.{Act}
 use Rattle.plan_model.specs.plan_meaning.Network.{GroundMethod, network, IsGroundMethod}

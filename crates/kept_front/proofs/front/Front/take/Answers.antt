@@ -1,4 +1,4 @@
-use Rattle.std.proofs.Common.{ℕ, ◌≡◌, ◌<◌, length, ◌∙◌, ap, sym, subst, arith}
+use Rattle.std.proofs.Common.{◌∙◌, ap, sym, subst, arith}
 use Rattle.slot_machine.specs.Machine.{with_heir}
 use Rattle.kept_front.specs.Fronts.{IsWholeAt}
 use Rattle.kept_front.proofs.Taking.{grown_sized, heir_fits, are_slots, taken_of, whole_of}

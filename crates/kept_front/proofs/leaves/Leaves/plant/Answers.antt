@@ -1,6 +1,4 @@
-use Rattle.std.proofs.Common.{◌≡◌, ◌≤◌, Some, refl, ap, sym, subst, ◌∙◌, arith}
-use Rattle.kept_front.specs.declared.leaves.Leaf.{Leaf}
-use Rattle.kept_front.specs.Leaves.{leaf_at}
+use Rattle.std.proofs.Common.{Some, refl, ap, subst, ◌∙◌, arith}
 use Rattle.kept_front.specs.Planted.{ArePlanted}
 use Rattle.kept_front.proofs.Planting.{read_at, none_planted, one_planted}
 use Rattle.kept_front.proofs.leaves.Leaves.plant.Goals as goal
