@@ -122,7 +122,8 @@ pub record MayLower (parent : ℕ) (later : List ℕ) (front : Front) : Type 0 w
   pub unfinished : 1 ≤ unfinished_at front.nodes parent
 
 -- The leaf of a slot has grown by one more growth, and its children stand in these slots.
-pub record IsGrownAt (leaf : Leaf) (slot : ℕ) (slots : List ℕ) (label : Label) (later : Option Later) (old new : Front) : Type 0 where
+pub record IsGrownAt (leaf : Leaf) (slot : ℕ) (slots : List ℕ) (label : Label) (later : Option Later)
+    (old new : Front) : Type 0 where
   pub room : room new.leaves ≡ room old.leaves
   pub growths : new.growths ≡ old.growths ++ record { parent = leaf.parent; child = leaf.child; label = label } ∷ []
   pub leaves : AreRegrown slot (length old.growths) slots later old.leaves new.leaves
@@ -137,7 +138,8 @@ abbrev pub StaysSized : Front → Front → Type 0
 StaysSized old new = (b : ℕ) → IsSized b old → IsSized b new
 
 -- The front is that of the acts, and the act of a slot, new slots and a label can be taken there.
-pub record MayTakeAt (c : Compiled) (b : ℕ) (front : Front) (acts : List (Act (network c))) (a : Act (network c)) (slot : ℕ) (new : List ℕ) (label : Label) : Type 0 where
+pub record MayTakeAt (c : Compiled) (b : ℕ) (front : Front) (acts : List (Act (network c))) (a : Act (network c))
+    (slot : ℕ) (new : List ℕ) (label : Label) : Type 0 where
   pub keeps : IsFrontOf c b front acts
   pub leaf : Held.Leaf (network c)
   pub may : MayTake (network c) b (top_work c) (kept c front) a leaf
@@ -148,4 +150,5 @@ pub record MayTakeAt (c : Compiled) (b : ℕ) (front : Front) (acts : List (Act 
 
 -- the same of some acts and slots
 abbrev pub MayTakeSome : (c : Compiled) → Front → ℕ → List ℕ → Label → Type 0
-MayTakeSome c front slot new label = (b : ℕ) × (acts : List (Act (network c))) × (a : Act (network c)) × MayTakeAt c b front acts a slot new label
+MayTakeSome c front slot new label = (b : ℕ) × (acts : List (Act (network c))) × (a : Act (network c))
+    × MayTakeAt c b front acts a slot new label
