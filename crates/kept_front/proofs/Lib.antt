@@ -3,3 +3,5 @@ pub mod LaterLaws
 pub mod SlotLaws
 pub mod Lowering
 pub mod Walking
+pub mod Planting
+pub mod Taking

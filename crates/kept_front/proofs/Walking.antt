@@ -11,7 +11,6 @@ use Rattle.plan_model.specs.declared.values.Compiled.{Compiled}
 use Rattle.plan_model.specs.Pairs.{pair, Pairs}
 use Rattle.plan_model.specs.task_networks.Net.{Net}
 use Rattle.plan_model.specs.task_networks.Lawful.{IsLawful}
-use Rattle.plan_model.specs.task_networks.Tree as Trees
 use Rattle.plan_model.specs.task_networks.Tree.{split, used, Address, label_at}
 use Rattle.plan_model.specs.task_networks.Spelling.{Act}
 use Rattle.plan_model.specs.plan_meaning.Network.{GroundMethod, network, IsGroundMethod}
@@ -72,7 +71,7 @@ module _ (c : Compiled) where
   abbrev N : Net
   N = network c
 
-  method_is : (l : Label) (m : GroundMethod) → label_in c l ≡ used m → method_of l ≡ Some m.number
+  pub method_is : (l : Label) (m : GroundMethod) → label_in c l ≡ used m → method_of l ≡ Some m.number
   method_is (Primitive a args) m e = absurd cc
   method_is (Check k values) m e = absurd cc
   method_is (Abstract t args k values) m e = let f : record { number = k; values = values } ≡ m = cc in ap (λ (z : GroundMethod). Some z.number) f
@@ -87,7 +86,7 @@ module _ (c : Compiled) where
   by_place growths (Some x) None e = absurd cc
   by_place growths (Some x) (Some y) e = ap (option_map (at_place_in growths)) e
 
-  pair_of : (m : GroundMethod) (plan : MethodPlan) → slice_get c.methods m.number ≡ Some plan → (i j : ℕ) → N.Pair m i j ↔ Pairs plan.schema.pairs i j
+  pub pair_of : (m : GroundMethod) (plan : MethodPlan) → slice_get c.methods m.number ≡ Some plan → (i j : ℕ) → N.Pair m i j ↔ Pairs plan.schema.pairs i j
   pair_of m plan e i j =
       let P : Option MethodPlan → Type 0 = λ o. MatchOption o ⊥ (λ (plan : MethodPlan). Pairs plan.schema.pairs i j) in
       (subst P e, subst P (sym e))
@@ -179,7 +178,7 @@ module _ (c : Compiled) where
         found = all m.number plan ground.is
 
         same : later_list ≡ after found.0 g.child
-        same = sym (found.2 g.child)
+        same = sym (found.2.after_each g.child)
 
         may : MayLower x later_list front
         may = record {

@@ -1,12 +1,13 @@
 -- What the lists of a front stand for: all that a decoder keeps of it, over the network of a compiled problem.
 -- Source: this project's.
-use Rattle.std.specs.Prelude.{ℕ, suc, ◌≡◌, ◌≢◌, ◌≤◌, [], List, map, Option, None, Some, slice_get, Contains}
+use Rattle.std.specs.Prelude.{ℕ, suc, ◌≡◌, ◌≢◌, ◌≤◌, [], ◌∷◌, ◌++◌, List, length, map, Option, None, Some, slice_get, Contains}
 use Rattle.std.specs.Option.{option_map, option_map_or, option_and_then, unwrap_or}
 use Rattle.htn_base.specs.Different.{AreDifferent}
+use Rattle.plan_model.specs.declared.schemas.MethodPlan.{MethodPlan}
 use Rattle.plan_model.specs.declared.values.Compiled.{Compiled}
 use Rattle.plan_model.specs.task_networks.Tree as Trees
 use Rattle.plan_model.specs.task_networks.Tree.{ran, used, waits}
-use Rattle.plan_model.specs.task_networks.Spelling.{Act}
+use Rattle.plan_model.specs.task_networks.Spelling.{Act, label_of}
 use Rattle.plan_model.specs.plan_meaning.Network.{Work, action, check, task, network}
 use Rattle.plan_model.specs.plan_meaning.Solution.{top_work}
 use Rattle.tree_core.specs.declared.label.Label.{Label}
@@ -14,13 +15,15 @@ use Rattle.tree_core.specs.declared.label.Label.TheVariants.{Primitive, Check, A
 use Rattle.tree_core.specs.declared.growth.Growth as Grown
 use Rattle.tree_core.specs.Growths.{Growth}
 use Rattle.decoding.specs.HeldLeaves as Held
-use Rattle.decoding.specs.Keeping.{Kept, Keeps, KeepsWhole}
+use Rattle.decoding.specs.FailingAct.{slot_in, new_in}
+use Rattle.decoding.specs.Keeping.{Kept, Keeps, KeepsWhole, MayTake}
 use Rattle.decoding.specs.KeepingLaws.{IsFirst}
 use Rattle.kept_front.specs.declared.leaves.Leaf.{Leaf}
 use Rattle.kept_front.specs.declared.later.Later.{Later}
 use Rattle.kept_front.specs.declared.front.Front.{Front}
-use Rattle.kept_front.specs.Leaves.{leaf_at, blocked_at, place_at}
-use Rattle.kept_front.specs.Nodes.{unfinished_at, child_slot}
+use Rattle.kept_front.specs.Leaves.{room, leaf_at, blocked_at, place_at}
+use Rattle.kept_front.specs.Nodes.{count, unfinished_at, child_slot, IsPushed}
+use Rattle.kept_front.specs.Planted.{AreRegrown}
 
 module _ (c : Compiled) where
   -- what a growth's label says in the problem's network
@@ -87,6 +90,13 @@ method_at front k = option_and_then (λ (g : Grown.Growth). method_of g.label) (
 abbrev pub later_at : List Later → Front → ℕ → Option Later
 later_at laters front k = option_and_then (slice_get laters) (method_at front k)
 
+-- what comes right after and before each child of a label, and the child that takes its slot
+abbrev pub later_of : List Later → Label → Option Later
+later_of laters label = option_and_then (slice_get laters) (method_of label)
+
+abbrev pub heir_of : Compiled → Label → Option ℕ
+heir_of c label = option_and_then (λ m. option_and_then (λ (plan : MethodPlan). plan.heir) (slice_get c.methods m)) (method_of label)
+
 -- where a growth stands below its parent
 abbrev pub parent_at : Front → ℕ → Option ℕ
 parent_at front k = option_and_then (λ (g : Grown.Growth). g.parent) (slice_get front.growths k)
@@ -110,3 +120,35 @@ pub record MayLower (parent : ℕ) (later : List ℕ) (front : Front) : Type 0 w
   pub apart : (j k : ℕ) → Contains later j → Contains later k → child_slot front.nodes parent j ≡ child_slot front.nodes parent k → j ≡ k
   pub once : AreDifferent later
   pub unfinished : 1 ≤ unfinished_at front.nodes parent
+
+-- The leaf of a slot has grown by one more growth, and its children stand in these slots.
+pub record IsGrownAt (leaf : Leaf) (slot : ℕ) (slots : List ℕ) (label : Label) (later : Option Later)
+    (old new : Front) : Type 0 where
+  pub room : room new.leaves ≡ room old.leaves
+  pub growths : new.growths ≡ old.growths ++ record { parent = leaf.parent; child = leaf.child; label = label } ∷ []
+  pub leaves : AreRegrown slot (length old.growths) slots later old.leaves new.leaves
+  pub nodes : IsPushed slots old.nodes new.nodes
+
+-- There is room for b slots, and something is kept of each growth.
+pub record IsSized (b : ℕ) (front : Front) : Type 0 where
+  pub room : room front.leaves ≡ b
+  pub nodes : count front.nodes ≡ length front.growths
+
+abbrev pub StaysSized : Front → Front → Type 0
+StaysSized old new = (b : ℕ) → IsSized b old → IsSized b new
+
+-- The front is that of the acts, and the act of a slot, new slots and a label can be taken there.
+pub record MayTakeAt (c : Compiled) (b : ℕ) (front : Front) (acts : List (Act (network c))) (a : Act (network c))
+    (slot : ℕ) (new : List ℕ) (label : Label) : Type 0 where
+  pub keeps : IsFrontOf c b front acts
+  pub leaf : Held.Leaf (network c)
+  pub may : MayTake (network c) b (top_work c) (kept c front) a leaf
+  pub slot_is : slot_in (network c) a ≡ slot
+  pub new_is : new_in (network c) a ≡ new
+  pub label_is : label_of (network c) a ≡ label_in c label
+  pub sized : IsSized b front
+
+-- the same of some acts and slots
+abbrev pub MayTakeSome : (c : Compiled) → Front → ℕ → List ℕ → Label → Type 0
+MayTakeSome c front slot new label = (b : ℕ) × (acts : List (Act (network c))) × (a : Act (network c))
+    × MayTakeAt c b front acts a slot new label

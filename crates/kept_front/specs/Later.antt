@@ -1,6 +1,6 @@
 -- The children that a child comes right before.
 -- Source: this project's.
-use Rattle.std.specs.Prelude.{ℕ, ◌≡◌, ◌==◌, List, [], map, filter, get_or, slice_get, Some}
+use Rattle.std.specs.Prelude.{ℕ, ◌≡◌, ◌==◌, List, [], length, map, filter, get_or, slice_get, Some}
 use Rattle.htn_base.specs.Different.{AreDifferent}
 use Rattle.plan_model.specs.declared.networks.Pair.{Pair}
 use Rattle.plan_model.specs.declared.schemas.MethodPlan.{MethodPlan}
@@ -14,8 +14,16 @@ followers pairs i = map (λ (p : Pair). p.then) (filter (λ (p : Pair). p.first 
 abbrev pub after : Later → ℕ → List ℕ
 after later i = get_or later.by_child.items i []
 
-abbrev pub AreLater : List Pair → Later → Type 0
-AreLater pairs later = (i : ℕ) → after later i ≡ followers pairs i
+-- how many of the pairs end with the child
+abbrev pub predecessors : List Pair → ℕ → ℕ
+predecessors pairs j = length (filter (λ (p : Pair). p.then == j) pairs)
+
+abbrev pub before : Later → ℕ → ℕ
+before later j = get_or later.counts.items j 0
+
+pub record AreLater (pairs : List Pair) (later : Later) : Type 0 where
+  pub after_each : (i : ℕ) → after later i ≡ followers pairs i
+  pub before_each : (j : ℕ) → before later j ≡ predecessors pairs j
 
 -- for each method what comes right after each of its children
 abbrev pub AreAllLater : Compiled → List Later → Type 0

@@ -1,4 +1,5 @@
 pub mod Leaves
 pub mod Nodes
 pub mod Later
+pub mod Planted
 pub mod Fronts

@@ -1,4 +1,5 @@
-ghost use Rattle.std.specs.Prelude.{ℕ, List as Items, ◌≡◌, ◌≤◌, ◌++◌, ◌∷◌, [], IfOk};
+ghost use Rattle.std.specs.Prelude.{ℕ, List as Items, ◌≡◌, ◌≤◌, ◌<◌, ◌^◌, ◌+◌, ◌++◌, ◌∷◌, [], length, All, IfOk, OnOk};
+ghost use Rattle.htn_base.specs.Different.{AreDifferent};
 ghost use Rattle.std.specs.Option.{option_copied};
 ghost use Rattle.plan_model.specs.task_networks.Spelling.{Act};
 ghost use Rattle.plan_model.specs.task_networks.Lawful.{IsLawful};
@@ -11,6 +12,7 @@ ghost use Rattle.kept_front.specs.Fronts as spec;
 use crate::later::Later;
 use crate::leaves::{Leaf, Leaves};
 use crate::nodes::Nodes;
+use crate::slots::child_slots;
 use htn_base::{List, Memory};
 use plan_model::Compiled;
 use std::alloc::Global;
@@ -37,7 +39,7 @@ impl Front {
     /// The front of the top task alone, in slot 1 of so many.
     pub fn new(alloc: Global, slots: u32) -> Result<Front, Memory>
         requires some { 1 ≤ slots }
-        ensures room { IfOk result (λ front. room front.leaves ≡ slots) }
+        ensures sized { IfOk result (spec.IsSized slots) }
         ensures first { IfOk result (λ front. (c : compiled) → spec.IsFirstOf c front) }
     {
         let mut leaves = Leaves::none(alloc, slots as usize)?;
@@ -65,6 +67,7 @@ impl Front {
     fn lower(&mut self, parent: u32, later: &[u32])
         requires may { spec.MayLower parent later.now self.old }
         ensures lowered { spec.IsLowered parent later.now self.old self.new }
+        ensures sized { spec.StaysSized self.old self.new }
     {
         for child in later {
             let slot = self.nodes.child_slot(parent, *child);
@@ -105,7 +108,8 @@ impl Front {
         requires lawful { IsLawful (network c.now) }
         requires later { AreAllLater c.now later.now }
         requires whole { spec.IsSomeWholeAt c.now self.old growth }
-        ensures { (b : ℕ) (acts : Items (Act (network c.now))) (a : Act (network c.now))
+        ensures sized { spec.StaysSized self.old self.new }
+        ensures front { (b : ℕ) (acts : Items (Act (network c.now))) (a : Act (network c.now))
             → spec.IsWholeAt c.now b self.old growth acts a → spec.IsFrontOf c.now b self.new (acts ++ a ∷ []) }
     {
         let mut whole = growth;
@@ -120,5 +124,86 @@ impl Front {
             }
             whole = parent;
         }
+    }
+
+    /// The leaf of the slot grows, and its children stand in these slots.
+    fn grow(
+        &mut self,
+        leaf: Leaf,
+        slot: u32,
+        slots: Vec<u32>,
+        label: Label,
+        later: Option<&Later>,
+    ) -> Result<(), Memory>
+        requires slot { (1 ≤ slot) × (slot ≤ room self.old.leaves) }
+        requires slots { All (λ x. (1 ≤ x) × (x ≤ room self.old.leaves)) slots.items }
+        requires different { AreDifferent slots.items }
+        requires few { length slots.items < 2 ^ 32 }
+        requires few_growths { length self.old.growths < 2 ^ 32 }
+        ensures { OnOk result (spec.IsGrownAt leaf slot slots.items label (option_copied later.entry) self.old self.new) }
+    {
+        let growth = self.growths.len() as u32;
+        self.leaves.regrow(slot, growth, slots.as_slice(), later);
+        self.nodes.push(slots)?;
+        self.growths.push(Growth {
+            parent: leaf.parent,
+            child: leaf.child,
+            label,
+        })?;
+        Ok(())
+    }
+
+    /// Takes an act at the slot, with these new slots: its leaf grows, with this label. Where there are no children, it goes up
+    /// as far as what stands above becomes whole. After an `Err` the front is of no use.
+    pub fn take(
+        &mut self,
+        alloc: Global,
+        c: &Compiled,
+        later: &[Later],
+        slot: u32,
+        new: &[u32],
+        label: Label,
+    ) -> Result<(), Memory>
+        requires lawful { IsLawful (network c.now) }
+        requires later { AreAllLater c.now later.now }
+        requires few_new { length new.now + 1 < 2 ^ 32 }
+        requires few_growths { length self.old.growths < 2 ^ 32 }
+        requires may { spec.MayTakeSome c.now self.old slot new.now label }
+        ensures sized { OnOk result (spec.StaysSized self.old self.new) }
+        ensures taken { OnOk result ((b : ℕ) (acts : Items (Act (network c.now))) (a : Act (network c.now))
+            → spec.MayTakeAt c.now b self.old acts a slot new.now label → spec.IsFrontOf c.now b self.new (acts ++ a ∷ [])) }
+    {
+        let Some(leaf) = self.leaves.at(slot) else {
+            return Ok(());
+        };
+        let growth = self.growths.len() as u32;
+        let slots = child_slots(alloc, heir(c, &label), slot, new)?;
+        let childless = slots.len() == 0;
+        let known = known(later, &label);
+        self.grow(leaf, slot, slots, label, known)?;
+        if childless {
+            self.walk(c, later, growth);
+        }
+        Ok(())
+    }
+}
+
+/// The child that takes the slot of what is decomposed.
+fn heir(c: &Compiled, label: &Label) -> Option<u32>
+    ensures { result ≡ spec.heir_of c.now label.now }
+{
+    match label {
+        Label::Abstract { method, .. } => c.methods.get(*method as usize)?.heir,
+        _ => None,
+    }
+}
+
+/// What comes right after and before each child of what is decomposed.
+fn known<'l>(later: &'l [Later], label: &Label) -> Option<&'l Later>
+    ensures { option_copied result ≡ spec.later_of later.now label.now }
+{
+    match label {
+        Label::Abstract { method, .. } => later.get(*method as usize),
+        _ => None,
     }
 }

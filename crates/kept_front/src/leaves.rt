@@ -1,6 +1,10 @@
-ghost use Rattle.std.specs.Prelude.{ℕ, ◌≡◌, ◌≢◌, ◌+◌, ◌≤◌, ◌<◌, IfOk, None};
+ghost use Rattle.std.specs.Prelude.{ℕ, ◌≡◌, ◌≢◌, ◌+◌, ◌≤◌, ◌<◌, ◌^◌, length, All, IfOk, None};
+ghost use Rattle.std.specs.Option.{option_copied};
+ghost use Rattle.htn_base.specs.Different.{AreDifferent};
 ghost use Rattle.kept_front.specs.Leaves as spec;
+ghost use Rattle.kept_front.specs.Planted.{ArePlanted, AreRegrown};
 
+use crate::later::Later;
 use htn_base::Memory;
 use std::alloc::Global;
 
@@ -68,6 +72,41 @@ impl Leaves {
         if let Some(leaf) = self.at(slot) {
             let blocked = leaf.blocked - 1;
             self.put(slot, Some(Leaf { blocked, ..leaf }));
+        }
+    }
+
+    /// Puts the children of a growth into these slots, each with the number of those that come right before it.
+    pub(crate) fn plant(&mut self, growth: u32, slots: &[u32], later: &Later)
+        requires slots { All (λ x. (1 ≤ x) × (x ≤ spec.room self.old)) slots.now }
+        requires different { AreDifferent slots.now }
+        requires few { length slots.now < 2 ^ 32 }
+        ensures room { spec.room self.new ≡ spec.room self.old }
+        ensures planted { ArePlanted growth slots.now later.now self.old self.new (length slots.now) }
+    {
+        for (child, slot) in slots.iter().enumerate() {
+            let child = child as u32;
+            let leaf = Leaf {
+                parent: Some(growth),
+                child,
+                blocked: later.before(child),
+            };
+            self.put(*slot, Some(leaf));
+        }
+    }
+
+    /// The leaf of a slot grows: its slot is given up, and its children are put into theirs.
+    #[tactic(auto, using(crate::proofs::Planting::regrown, crate::proofs::Planting::given_up))]
+    pub(crate) fn regrow(&mut self, slot: u32, growth: u32, slots: &[u32], later: Option<&Later>)
+        requires slot { (1 ≤ slot) × (slot ≤ spec.room self.old) }
+        requires slots { All (λ x. (1 ≤ x) × (x ≤ spec.room self.old)) slots.now }
+        requires different { AreDifferent slots.now }
+        requires few { length slots.now < 2 ^ 32 }
+        ensures room { spec.room self.new ≡ spec.room self.old }
+        ensures grown { AreRegrown slot growth slots.now (option_copied later.entry) self.old self.new }
+    {
+        self.put(slot, None);
+        if let Some(later) = later {
+            self.plant(growth, slots, later);
         }
     }
 }
