@@ -3,7 +3,8 @@
 //! Stands on `text_forms` for sheets and faults, on `tree_core` and `plan_model` for trees, and on `htn_base`. The contract used
 //! above: `print` puts the text of a plan on a sheet, byte for byte as `specs/HPlanText` has it. `read` answers a plan exactly
 //! where the text has no fault, and then the text spells it, and no other (`a_text_spells_one_hplan`); else the least fault by
-//! phase, place and code (`specs/HPlanFaults`). `show` gives the plan that a finished tree and its order show
+//! phase, place and code (`specs/HPlanFaults`). What is printed of a plan that is sound and printable is read back as it was
+//! (`printed_plans_are_read_back`). `show` gives the plan that a finished tree and its order show
 //! (`specs/ShownPlan`), and they show no other (`each_tree_shows_one_plan`).
 #![tactic(auto)]
 
