@@ -19,4 +19,6 @@ mod hierarchical_plans;
 #[cfg(test)]
 mod readings;
 #[cfg(test)]
+mod shown_plans;
+#[cfg(test)]
 mod tokens;
