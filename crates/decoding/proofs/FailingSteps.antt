@@ -1,6 +1,6 @@
 -- A list of steps is a spelled solution, or it fails at one step for one first cause.
-use Rattle.std.proofs.Common.{ℕ, zero, suc, ◌≡◌, ◌≤◌, ◌<◌, ◌+◌, ◌⊎◌, inl, inr, List, [], ◌∷◌, ◌++◌, length, refl, ap, sym, subst, ◌∙◌, Contains, append_assoc, append-nil, arith}
-use Rattle.std.proofs.Math.Decide.{ℕ_discrete, dec_lt}
+use Rattle.std.proofs.Common.{ℕ, ◌≡◌, ◌≤◌, ◌<◌, ◌+◌, ◌⊎◌, inl, inr, List, [], ◌∷◌, ◌++◌, length, refl, ap, sym, subst, ◌∙◌, Contains, append_assoc, append-nil, arith}
+use Rattle.std.proofs.Math.Decide.{ℕ_discrete}
 use Rattle.plan_model.specs.task_networks.Net.{Net}
 use Rattle.plan_model.specs.task_networks.Lawful.{IsLawful}
 use Rattle.plan_model.specs.task_networks.Tree.{Tree, Label, Address, waits, open_leaf, IsOpen}
@@ -18,68 +18,9 @@ use Rattle.decoding.specs.declared.causes.Why.{Why}
 use Rattle.decoding.specs.declared.causes.Why.TheVariants.{UnknownAction, Arguments, SlotHolds, Waiting, SlotTaken, Constraint, Precondition, Unfinished, GoalFalse}
 use Rattle.decoding.specs.FailingAct.{place, slot_in, work_in, new_in, IsFormed, IsSlotTaken, IsMet, IsUnmet, ActSentence, IsReading, AreRead, Sentence, FailsBy, SpellsExecutable, StepFails, EndSentence, EndFails, Fails, SpellsSolution}
 use Rattle.decoding.specs.FailingLaws.{EachIsSolutionOrFails}
+use Rattle.decoding.proofs.Cuts.{cuts}
+use Rattle.decoding.proofs.FirstCauses.{extend, none_first, first_is_one}
 use Rattle.decoding.proofs.Taken.{labels, allowed_parts, allowed_push, same_labels, allowed_of, executable_of, can_push, could}
-
--- two cuts of a list before an element: they are one, or one goes on behind the other
-cuts : {A : Type 0} (xs : List A) (x : A) (ys zs : List A) (y : A) (ws : List A) → xs ++ x ∷ ys ≡ zs ++ y ∷ ws
-    → ((xs ≡ zs) × (x ≡ y)) ⊎ (((more : List A) × (zs ≡ xs ++ x ∷ more)) ⊎ ((more : List A) × (xs ≡ zs ++ y ∷ more)))
-cuts [] x ys [] y ws e = inl (refl, cc)
-cuts [] x ys (z ∷ zs) y ws e = inr (inl (zs, (let f : x ≡ z = cc in ap (λ w. w ∷ zs) (sym f))))
-cuts (a ∷ xs) x ys [] y ws e = inr (inr (xs, (let f : a ≡ y = cc in ap (λ w. w ∷ xs) f)))
-cuts {A = A} (a ∷ xs) x ys (z ∷ zs) y ws e = go (cuts xs x ys zs y ws cc)
-  where
-    f : a ≡ z
-    f = cc
-
-    go : ((xs ≡ zs) × (x ≡ y)) ⊎ (((more : List A) × (zs ≡ xs ++ x ∷ more)) ⊎ ((more : List A) × (xs ≡ zs ++ y ∷ more)))
-        → ((a ∷ xs ≡ z ∷ zs) × (x ≡ y)) ⊎ (((more : List A) × (z ∷ zs ≡ a ∷ (xs ++ x ∷ more))) ⊎ ((more : List A) × (a ∷ xs ≡ z ∷ (zs ++ y ∷ more))))
-    go (inl h) = inl (let g = h.0 in cc, h.1)
-    go (inr (inl (more, h))) = inr (inl (more, cc))
-    go (inr (inr (more, h))) = inr (inr (more, cc))
-
-cause_at : ℕ → Why
-cause_at zero = UnknownAction
-cause_at (suc zero) = Arguments
-cause_at (suc (suc zero)) = SlotHolds
-cause_at (suc (suc (suc zero))) = Waiting
-cause_at (suc (suc (suc (suc zero)))) = SlotTaken
-cause_at (suc (suc (suc (suc (suc zero))))) = Constraint
-cause_at (suc (suc (suc (suc (suc (suc zero)))))) = Precondition
-cause_at (suc (suc (suc (suc (suc (suc (suc zero))))))) = Unfinished
-cause_at (suc (suc (suc (suc (suc (suc (suc (suc n)))))))) = GoalFalse
-
-at_place : (c : Why) → cause_at (place c) ≡ c
-unfolding cause_at
-at_place UnknownAction = refl
-at_place Arguments = refl
-at_place SlotHolds = refl
-at_place Waiting = refl
-at_place SlotTaken = refl
-at_place Constraint = refl
-at_place Precondition = refl
-at_place Unfinished = refl
-at_place GoalFalse = refl
-
--- causes with one place are one
-by_place : (c d : Why) → place c ≡ place d → c ≡ d
-by_place c d e = sym (at_place c) ∙ ap cause_at e ∙ at_place d
-
--- what holds of no cause before d, nor of d, holds of none up to d
-pub extend : (P : Why → Type 0) (d : Why) → ((c : Why) → place c < place d → P c → ⊥) → (P d → ⊥) → (c : Why) → place c < suc (place d) → P c → ⊥
-extend P d h n c l p = elim (ℕ_discrete (place c) (place d)) [ yes e ↦ n (subst P (by_place c d e) p) | no m ↦ h c (omega arith) p ]
-
-pub none_first : (P : Why → Type 0) (c : Why) → place c < 0 → P c → ⊥
-none_first P c l p = absurd (omega arith)
-
--- the first of which something holds is one
-pub first_is_one : (P : Why → Type 0) (c d : Why) → P c → ((e : Why) → place e < place c → P e → ⊥) → P d → ((e : Why) → place e < place d → P e → ⊥) → c ≡ d
-first_is_one P c d p h q k = elim (ℕ_discrete (place c) (place d)) [
-  | yes e ↦ by_place c d e
-  | no n ↦ elim (less (place c) (place d) n) [ inl l ↦ absurd (k c l p) | inr l ↦ absurd (h d l q) ]
-]
-  where
-    less : (x y : ℕ) → (x ≡ y → ⊥) → (x < y) ⊎ (y < x)
-    less x y n = elim (dec_lt x y) [ yes l ↦ inl l | no m ↦ inr (omega arith) ]
 
 pub is_in : (xs : List ℕ) (x : ℕ) → Dec (Contains xs x)
 is_in [] x = no (λ c. not-in_empty x c)

@@ -3,7 +3,7 @@ use Rattle.std.proofs.Common.{ℕ, zero, suc, ◌≡◌, ◌≢◌, ◌+◌, ◌
 use Rattle.htn_base.specs.Different.{AreDifferent}
 use Rattle.plan_model.specs.task_networks.Net.{Net, count}
 use Rattle.plan_model.specs.task_networks.Lawful.{IsLawful}
-use Rattle.plan_model.specs.task_networks.Tree.{Tree, open_leaf, waits, used, Address, label_at, IsProcessed}
+use Rattle.plan_model.specs.task_networks.Tree.{Tree, open_leaf, used, Address, label_at, IsProcessed}
 use Rattle.plan_model.specs.task_networks.Spelling.{Act, label_of, Spells}
 use Rattle.plan_model.proofs.task_networks.Parents.{child_address}
 use Rattle.slot_machine.specs.Machine.{with_heir}

@@ -1,5 +1,7 @@
 pub mod Formed
 pub mod Taken
+mod Cuts
+pub mod FirstCauses
 pub mod FailingSteps
 pub mod Searched
 pub mod Tests

@@ -11,7 +11,8 @@ use Rattle.decoding.specs.declared.causes.Why.{Why}
 use Rattle.decoding.specs.declared.causes.Why.TheVariants.{UnknownAction, Arguments, SlotHolds, Waiting, SlotTaken, Constraint}
 use Rattle.decoding.specs.FailingAct.{place, slot_in, work_in, new_in, WaitsAt, IsSlotTaken, IsMet, IsUnmet, ActSentence, IsReading}
 use Rattle.decoding.specs.FailingLaws.{TestsTell, TestsTellCauses}
-use Rattle.decoding.proofs.FailingSteps.{extend, none_first, one_act, can_take, are_different, Says}
+use Rattle.decoding.proofs.FirstCauses.{extend, none_first}
+use Rattle.decoding.proofs.FailingSteps.{one_act, can_take, are_different, Says}
 use Rattle.plan_model.specs.task_networks.Spelling.{run, apply}
 
 module _ (N : Net) (State : Type 1) (Allows : State → Label N → Type 0) (next : State → Label N → State) (first : State) (Goal : State → Type 0) (Step : Type 0) (Named : Step → Type 0) (Reads : ℕ → Step → Act N → Type 0) where
