@@ -31,7 +31,7 @@ read_push (z ∷ xs) x y (suc k) e = by (read_push xs x y k e)
     by (inl f) = inl f
     by (inr f) = inr (let last = f.0 in omega (arith, last), f.1)
 
--- what holds of each number from a place up to another, and of that at the other, holds of each up to behind it
+-- what holds of each number from a place up to another, and of that at the other, holds of each of them
 pub each-next : (P : ℕ → Type 0) (xs : List ℕ) (start place : ℕ) → ((i n : ℕ) → start ≤ i → i < place → slice_get xs i ≡ Some n → P n)
     → ((n : ℕ) → slice_get xs place ≡ Some n → P n) → (i n : ℕ) → start ≤ i → i < place + 1 → slice_get xs i ≡ Some n → P n
 each-next P xs start place before at i n from below read = by (cases_eq i place)
@@ -75,7 +75,8 @@ module _ (index : Index) (words : List (List ℕ)) (table : IsNameTable index wo
       by k e (inl near) =
           let from = near.from in
           let below = near.below in
-          true≢false (sym (passes k e) ∙ not_near near.place k (omega (arith, begins, from)) (omega (arith, begins, ends, below)) near.there)
+          let not = not_near near.place k (omega (arith, begins, from)) (omega (arith, begins, ends, below)) near.there in
+          true≢false (sym (passes k e) ∙ not)
       by k e (inr other) = true≢false (sym (passes k e) ∙ not_other k other)
 
 -- a number is kept as before where another word's is put among the others
@@ -83,7 +84,8 @@ pub kept-put : (index : Index) (new : BTreeMap (Vec ℕ Global) ℕ) (word other
     → KeepsOthers (eq_by_cmp key_order) (tree.is_at (list_order word)) index.others.entries new.entries
     → IsKept index other k → IsKept (record { buckets = index.buckets; others = new }) other k
 kept-put index new word other k differ keeps (inl near) = inl near
-kept-put index new word other k differ keeps (inr there) = inr (others-same word other (λ e. differ (sym e)) index.others new keeps ∙ there)
+kept-put index new word other k differ keeps (inr there) =
+    inr (others-same word other (λ e. differ (sym e)) index.others new keeps ∙ there)
 
 -- after a number was kept for a word that does not stand among the words
 module _ (old new : Index) (words : List (List ℕ)) (word : List ℕ) (kept : AreKept old words)
@@ -99,21 +101,26 @@ module _ (old new : Index) (words : List (List ℕ)) (word : List ℕ) (kept : A
     where
       which : (slice_get words k ≡ Some w) ⊎ ((length words ≡ k) × (Some word ≡ Some w)) → IsKept new w k
       which (inl read) = still_kept k w read
-      which (inr last) = subst (λ v. IsKept new v k) (ap (λ v. option_map_or (λ z. z) v word) last.1) (subst (IsKept new word) last.0 next)
+      which (inr last) =
+          subst (λ v. IsKept new v k) (ap (λ v. option_map_or (λ z. z) v word) last.1) (subst (IsKept new word) last.0 next)
 
 -- after the numbers of the first words the next one was kept for its word
-module _ (old new : Index) (words : List (List ℕ)) (word : List ℕ) (n : ℕ) (table : IsTable words) (there : slice_get words n ≡ Some word) where
+module _ (old new : Index) (words : List (List ℕ)) (word : List ℕ) (n : ℕ) (table : IsTable words)
+    (there : slice_get words n ≡ Some word) where
   below : (k : ℕ) (w : List ℕ) → slice_get (take n words) k ≡ Some w → k < n
   below k w e = omega (arith, slice_get_within (take n words) k w e, length-take n words, min-le_left n (length words))
 
   not_before : (k : ℕ) → slice_get (take n words) k ≡ Some word → ⊥
-  not_before k e = true≢false (sym (list_any_at (bytes_eq word) (take n words) k word (slice_get_within (take n words) k word e)
-      ((bytes_eq-Decides word _).1 (sym (get_or_from_slice_get (take n words) k word word e)))) ∙ new_there words word n table.differ there)
+  not_before k e =
+      let same = (bytes_eq-Decides word _).1 (sym (get_or_from_slice_get (take n words) k word word e)) in
+      let among = list_any_at (bytes_eq word) (take n words) k word (slice_get_within (take n words) k word e) same in
+      true≢false (sym among ∙ new_there words word n table.differ there)
 
   pub first_kept : AreKept old (take n words) → IsKept new word n
       → ((k : ℕ) (other : List ℕ) → k < n → other ≢ word → IsKept old other k → IsKept new other k) → AreKept new (take n words ++ word ∷ [])
   first_kept kept own before =
-      let many : n ≡ length (take n words) = omega (arith, length-take n words, min-le_left n (length words), slice_get_within words n word there) in
+      let within = slice_get_within words n word there in
+      let many : n ≡ length (take n words) = omega (arith, length-take n words, min-le_left n (length words), within) in
       next_kept old new (take n words) word kept (λ k w e. before k w (below k w e)) not_before (subst (IsKept new word) many own)
 
 -- after a number was kept for a word that has none in the table
@@ -125,7 +132,9 @@ module _ (old new : Index) (words : List (List ℕ)) (word : List ℕ) (table : 
 
   -- the table is found as before
   pub table-still : (now : List (List ℕ)) → now ≡ words → IsNameTable new now
-  table-still now same = subst (IsNameTable new) (sym same) (record { table = table.table; kept = still_kept old new words word table.kept stays absent })
+  table-still now same =
+      let still = still_kept old new words word table.kept stays absent in
+      subst (IsNameTable new) (sym same) (record { table = table.table; kept = still })
 
   -- and so is the word, once it stands behind the others
   pub table-next : {E : Type 0} (now : List (List ℕ)) (answer : Result Unit E) → IsKept new word (length words)

@@ -279,7 +279,8 @@ fn index_of(alloc: Global, words: &WordList, room: usize) -> Result<Index, Memor
 // Puts a number into its word's bucket, in the place of one that no word before has, and else among the others.
 fn put(alloc: Global, index: &mut Index, word: &[u8], number: u32) -> Result<(), Memory>
     ensures kept { OnOk result (IsKept index.new word.now number) }
-    ensures before { (k : ℕ) (other : List ℕ) → k < number → other ≢ word.now → IsKept index.old other k → IsKept index.new other k }
+    ensures before { (k : ℕ) (other : List ℕ) → k < number → other ≢ word.now
+        → IsKept index.old other k → IsKept index.new other k }
 {
     let start = bucket_of(&index.buckets, word);
     for place in start..start + BUCKET {

@@ -16,7 +16,7 @@ loop-number-preserved c =
           let there = ap (λ found. option_copied found) w.in-Some.is in
           let next = next_read words i _ c.text.ensures.word word there in
           rw (w.index-is, next)
-          (first_kept c.loop-number.index w.put.new.index words word i c.text.ensures.sound (sym c.text.ensures.word ∙ there) c.loop-number.invariant
-          w.in_ok-put.ensures.kept w.put.ensures.before)
+          (first_kept c.loop-number.index w.put.new.index words word i c.text.ensures.sound (sym c.text.ensures.word ∙ there)
+          c.loop-number.invariant w.in_ok-put.ensures.kept w.put.ensures.before)
       | in_default w ↦ absurd (none_read words i _ c.text.ensures.word within (ap (λ found. option_copied found) w.in_default.is))
     ]

@@ -7,9 +7,11 @@ use Rattle.htn_base.proofs.KeptLemmas.{kept-put}
 use Rattle.htn_base.proofs.name.put.Goals as goal
 use Rattle.htn_base.proofs.name.put.Goals.{In_ok-insert}
 
-put : (c : In_ok-insert) → tree.UpdatesBy key_order (list_order c.args.word.now) c.loop-place.index.others c.insert.new.self (Some c.args.number)
+put : (c : In_ok-insert)
+    → tree.UpdatesBy key_order (list_order c.args.word.now) c.loop-place.index.others c.insert.new.self (Some c.args.number)
 put c =
-    subst (λ (word : List ℕ). tree.UpdatesBy key_order (list_order word) c.loop-place.index.others c.insert.new.self (Some c.args.number))
+    subst
+    (λ (word : List ℕ). tree.UpdatesBy key_order (list_order word) c.loop-place.index.others c.insert.new.self (Some c.args.number))
     c.in_ok-key.ensures.items c.in_ok-insert.ensures.updates
 
 pub returns-clause-kept : goal.returns-clause-kept

@@ -18,15 +18,18 @@ pub loop-place-preserved : goal.loop-place-preserved
 loop-place-preserved c =
     let table = c.self.inside in
     let word = c.args.word.now in
+    let place = c.loop-place.place in
     let numbers = c.deref-in-loop-place.ensures.value in
-    each-next (λ n. is_word_at table.words word n ≡ false) table.index.buckets.items _ c.loop-place.place c.loop-place.invariant
+    each-next (λ n. is_word_at table.words word n ≡ false) table.index.buckets.items _ place c.loop-place.invariant
     (elim c.match-get.branch [
       | in-Some+else-is_at w ↦ λ n read.
-          let at = slice_get_read c.deref-in-loop-place.result.now _ c.loop-place.place w.in-Some.number.now refl w.in-Some.ensures.lookup.3.0 w.in-Some.ensures.lookup.1 in
-          let is = sym (ap (λ numbers. slice_get numbers c.loop-place.place) (sym numbers) ∙ at) ∙ read in
+          let found = w.in-Some.ensures.lookup in
+          let at = slice_get_read c.deref-in-loop-place.result.now _ place w.in-Some.number.now refl found.3.0 found.1 in
+          let is = sym (ap (λ numbers. slice_get numbers place) (sym numbers) ∙ at) ∙ read in
           subst (λ n. option_map_or (is_word_at table.words word) n false ≡ false) is (sym w.is_at.ensures ∙ w.if-is_at.false)
       | in_default w ↦ λ n read.
-          let within = lt-ltb _ _ (slice_get_within c.deref-in-loop-place.result.now c.loop-place.place n (ap (λ numbers. slice_get numbers c.loop-place.place) numbers ∙ read)) in
+          let there = ap (λ numbers. slice_get numbers place) numbers ∙ read in
+          let within = lt-ltb _ _ (slice_get_within c.deref-in-loop-place.result.now place n there) in
           absurd (true≢false (sym within ∙ sym w.in_default.ensures.lookup.0))
     ])
 
@@ -34,9 +37,11 @@ pub returns-in_err-get-clause-number : goal.returns-in_err-get-clause-number
 returns-in_err-get-clause-number c =
     let table = c.self.inside in
     let word = c.args.word.now in
-    let none : number_by_word table.index.others word ≡ None = sym c.get-2.ensures.value ∙ ap (λ found. option_copied found) c.in_err-get.was in
+    let begins = c.bucket_of-start.ensures.start ∙ ap (λ numbers. bucket_of numbers word) c.deref.ensures.value in
+    let none : number_by_word table.index.others word ≡ None =
+    sym c.get-2.ensures.value ∙ ap (λ found. option_copied found) c.in_err-get.was in
     ap (λ found. option_map (λ name. name.number) found) c.from_residual.ensures
-    ∙ none_among table.index table.words c.self.invariant word _ _ (c.bucket_of-start.ensures.start ∙ ap (λ numbers. bucket_of numbers word) c.deref.ensures.value) c.loop-place-test.false c.loop-place.invariant (λ k put. cc (none, put))
+    ∙ none_among table.index table.words c.self.invariant word _ _ begins c.loop-place-test.false c.loop-place.invariant (λ k put. cc (none, put))
     ∙ ap (λ words. number_of words word) c.self.view_is
 
 pub returns-then-is_at-2-clause-number : goal.returns-then-is_at-2-clause-number
@@ -50,7 +55,10 @@ pub returns-clause-number : goal.returns-clause-number
 returns-clause-number c =
     let table = c.self.inside in
     let word = c.args.word.now in
-    let is : number_by_word table.index.others word ≡ Some c.in_ok-get.field-0.now = sym c.get-2.ensures.value ∙ ap (λ found. option_copied found) c.in_ok-get.was in
-    none_among table.index table.words c.self.invariant word _ _ (c.bucket_of-start.ensures.start ∙ ap (λ numbers. bucket_of numbers word) c.deref.ensures.value) c.loop-place-test.false c.loop-place.invariant
-    (λ k put. subst (λ n. option_map_or (is_word_at table.words word) n false ≡ false) (sym is ∙ put) (sym c.is_at-2.ensures ∙ c.if-is_at-2.false))
+    let begins = c.bucket_of-start.ensures.start ∙ ap (λ numbers. bucket_of numbers word) c.deref.ensures.value in
+    let is : number_by_word table.index.others word ≡ Some c.in_ok-get.field-0.now =
+    sym c.get-2.ensures.value ∙ ap (λ found. option_copied found) c.in_ok-get.was in
+    none_among table.index table.words c.self.invariant word _ _ begins c.loop-place-test.false c.loop-place.invariant
+    (λ k put. subst (λ n. option_map_or (is_word_at table.words word) n false ≡ false) (sym is ∙ put)
+    (sym c.is_at-2.ensures ∙ c.if-is_at-2.false))
     ∙ ap (λ words. number_of words word) c.self.view_is
