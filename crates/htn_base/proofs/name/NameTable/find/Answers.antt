@@ -41,7 +41,8 @@ returns-in_err-get-clause-number c =
     let none : number_by_word table.index.others word ≡ None =
     sym c.get-2.ensures.value ∙ ap (λ found. option_copied found) c.in_err-get.was in
     ap (λ found. option_map (λ name. name.number) found) c.from_residual.ensures
-    ∙ none_among table.index table.words c.self.invariant word _ _ begins c.loop-place-test.false c.loop-place.invariant (λ k put. cc (none, put))
+    ∙ none_among table.index table.words c.self.invariant word _ _ begins c.loop-place-test.false c.loop-place.invariant
+    (λ k put. cc (none, put))
     ∙ ap (λ words. number_of words word) c.self.view_is
 
 pub returns-then-is_at-2-clause-number : goal.returns-then-is_at-2-clause-number
