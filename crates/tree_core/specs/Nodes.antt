@@ -13,7 +13,12 @@ label_or_none None = ran (check 0 [])
 label_or_none (Some growth) = label_of growth.label
 
 abbrev pub row_of : List Grown.Growth → Node → Row labels
-row_of growths node = record { label = label_or_none (slice_get growths node.growth); parent = node.parent; number = node.number; end = node.end }
+row_of growths node = record {
+  label = label_or_none (slice_get growths node.growth);
+  parent = node.parent;
+  number = node.number;
+  end = node.end;
+}
 
 abbrev pub rows_of : List Grown.Growth → List Node → List (Row labels)
 rows_of growths nodes = map (row_of growths) nodes

@@ -1,4 +1,5 @@
 ghost use Rattle.std.specs.Prelude.{◌≡◌, ◌<◌, ◌≤◌, None, length, IfOk, IfErr};
+ghost use Rattle.htn_base.specs.Limits.{most_steps};
 ghost use Rattle.tree_core.specs.Labels.{labels, growths_of};
 ghost use Rattle.tree_core.specs.Growths.{AreJoined};
 ghost use Rattle.tree_core.specs.Growing.{AreChildren};
@@ -18,7 +19,7 @@ use std::alloc::Global;
 /// The one tree of these growths, in which each stands under its parent at its child number, and the addresses of their
 /// nodes in the order in which they come. The tree keeps the growths, and copies none of their labels.
 pub fn grow(alloc: Global, steps: List<Growth>) -> Result<Scheduled, GrowError>
-    requires { length steps ≤ 1000000 }
+    requires { length steps ≤ most_steps }
     ensures tree { IfOk result (λ run. IsRun (growths_of steps) run) }
     ensures unjoined { IfErr result (λ why. IsRefused (growths_of steps) why) }
 {
@@ -37,7 +38,7 @@ pub fn grow(alloc: Global, steps: List<Growth>) -> Result<Scheduled, GrowError>
 // The nodes of growths by their addresses, and their addresses in the order in which the growths come; or the first place
 // at which they are not joined.
 fn laid_out(alloc: Global, steps: &[Growth]) -> Result<(List<Node>, List<u32>), GrowError>
-    requires { length steps.now ≤ 1000000 }
+    requires { length steps.now ≤ most_steps }
     ensures laid_out { IfOk result (λ laid. AreLaidOut steps.now laid.0 laid.1) }
     ensures unjoined { IfErr result (λ why. IsRefused (growths_of steps.now) why) }
 {
@@ -57,7 +58,7 @@ fn joined_laid_out(
     steps: &[Growth],
     children: &Children,
 ) -> Result<(List<Node>, List<u32>), Memory>
-    requires few { length steps.now ≤ 1000000 }
+    requires few { length steps.now ≤ most_steps }
     requires joined { AreJoined labels (growths_of steps.now) }
     requires children { AreChildren (growths_of steps.now) children.now }
     ensures { IfOk result (λ laid. AreLaidOut steps.now laid.0 laid.1) }

@@ -1,4 +1,5 @@
 ghost use Rattle.std.specs.Prelude.{◌≡◌, ◌≤◌, length, IfOk};
+ghost use Rattle.htn_base.specs.Limits.{most_steps};
 ghost use Rattle.tree_core.specs.Tables.{table};
 ghost use Rattle.tree_core.specs.Labels.{labels, growths_of};
 ghost use Rattle.tree_core.specs.Growths.{AreJoined};
@@ -45,7 +46,7 @@ pub(crate) fn nodes_of(
     parents: &[Option<u32>],
     ends: &[u32],
 ) -> Result<List<Node>, Memory>
-    requires few { length nodes.now ≤ 1000000 }
+    requires few { length nodes.now ≤ most_steps }
     requires below { AreBelow (length steps.now) nodes.now }
     requires nodes { OfTree (growths_of steps.now) (AreNodes (length steps.now) nodes.now) }
     requires many { length parents.now ≡ length nodes.now }
