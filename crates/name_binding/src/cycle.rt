@@ -1,4 +1,5 @@
-ghost use Rattle.std.specs.Prelude.{◌≡◌, ◌≤◌, ◌++◌, flat_map, map, IfOk, OnOk};
+ghost use Rattle.std.specs.Prelude.{◌≡◌, ◌+◌, ◌≤◌, ◌++◌, flat_map, map, IfOk, OnOk};
+ghost use Rattle.htn_base.specs.Limits.{most_subtasks};
 ghost use Rattle.name_binding.specs.PairsAmong as spec;
 
 use crate::places::Places;
@@ -16,7 +17,7 @@ pub(crate) fn cycle_among(
     count: u32,
     listed: &RawParams,
 ) -> Result<Option<u32>, Memory>
-    requires few { count ≤ 4097 }
+    requires few { count ≤ most_subtasks + 1 }
     ensures cycle { IfOk result (spec.IsCycleAmong types.now count listed.now) }
 {
     let written = pairs_among(alloc, types, count, listed)?;
