@@ -58,8 +58,9 @@ returns-clause-read c =
     let cut = c.in-Some-of.ensures in
     let new = c.fill_slots.new.into.items in
     let found = c.in_ok-fill_slots.field-0 in
-    let slots = new_are p is b name step named many c.new_slots.ensures parts cut found new c.if-not-branch.false c.in_ok-fill_slots.ensures in
+    let many_is = c.new_slots.ensures in
+    let slots = new_are p is b name step named many many_is parts cut found new c.if-not-branch.false c.in_ok-fill_slots.ensures in
     let are = are_of p is c.args.printed.now c.args.world.now c.requires.own c.index.result.now c.index.ensures in
-    all_read p is b name step named many c.new_slots.ensures parts cut c.params_of.result.now c.params_of.ensures
+    all_read p is b name step named many many_is parts cut c.params_of.result.now c.params_of.ensures
     c.in-Some-slot_within.slot new c.fill.new.env.values.items c.in-Some-slot_within.ensures slots
     (c.if-not-fill.ensures.filled (in_print p.hddl) are)
