@@ -1,5 +1,5 @@
 use Rattle.std.specs.Option.{option_copied, option_map, option_map_or}
-use Rattle.std.proofs.Common.{◌+◌, ◌≡◌, Some, None, false, slice_get, refl, sym, ap, subst, ◌∙◌}
+use Rattle.std.proofs.Common.{arith, ◌+◌, ◌≡◌, Some, None, false, slice_get, refl, sym, ap, subst, ◌∙◌}
 use Rattle.std.proofs.lemmas.Bool.{lt-ltb, true≢false}
 use Rattle.std.proofs.lemmas.Option.{slice_get_read, slice_get_within}
 use Rattle.htn_base.specs.Table.{number_of, bucket_of, is_word_at, number_by_word}
