@@ -1,6 +1,6 @@
 -- The numbers of words, found in their buckets or by the words: a word that is found so has its number, one that is not found
 -- has none, and the next word's number is kept beside those of the words before it.
-use Rattle.std.proofs.Common.{◌≡◌, ◌≢◌, ℕ, zero, suc, ◌+◌, ◌≤◌, ◌<◌, ◌⊎◌, inl, inr, List, [], ◌∷◌, ◌++◌, length, true, false, Option, Some, None, Result, Ok, Err, slice_get, take, get_or, Vec, Global, refl, sym, ap, subst, ◌∙◌, arith, true≢false}
+use Rattle.std.proofs.Common.{◌-◌, ◌^◌, ◌≡◌, ◌≢◌, ℕ, zero, suc, ◌+◌, ◌≤◌, ◌<◌, ◌⊎◌, inl, inr, List, [], ◌∷◌, ◌++◌, length, true, false, Option, Some, None, Result, Ok, Err, slice_get, take, get_or, Vec, Global, refl, sym, ap, subst, ◌∙◌, arith, true≢false}
 use Rattle.std.specs.Prelude.{OnOk, OnErr}
 use Rattle.std.specs.BTreeMap as tree
 use Rattle.std.specs.BTreeMap.{BTreeMap}
@@ -9,14 +9,15 @@ use Rattle.std.specs.Ordering.{eq_by_cmp}
 use Rattle.std.specs.Option.{option_map_or}
 use Rattle.std.specs.Str.{bytes_eq}
 use Rattle.std.proofs.lemmas.Bool.{cases_eq}
-use Rattle.std.proofs.lemmas.List.{length-take}
+use Rattle.std.specs.Prelude.{set, bit_and}
+use Rattle.std.proofs.lemmas.List.{length-take, length-set, get_or-set_same}
 use Rattle.std.proofs.lemmas.List.Folds.{list_any_at}
 use Rattle.std.proofs.lemmas.List.Quantifiers.{position-Some}
 use Rattle.std.proofs.lemmas.Option.{slice_get-get_or, slice_get_within, get_or_from_slice_get}
 use Rattle.std.proofs.Math.Nat.{min-le_left}
 use Rattle.std.proofs.lemmas.Slice.Eq.{bytes_eq-Decides}
 use Rattle.htn_base.specs.declared.name.Index.{Index}
-use Rattle.htn_base.specs.Table.{number_of, bucket_of, is_word_at, number_by_word, IsKept, AreKept, IsNameTable, IsTable}
+use Rattle.htn_base.specs.Table.{number_of, hash_of, bucket_of, IsInBucket, is_word_at, number_by_word, IsFull, IsKept, AreKept, IsNameTable, IsTable}
 use Rattle.htn_base.proofs.OrderedLemmas.{key_order, list_order, others-same}
 use Rattle.htn_base.proofs.TableLemmas.{number_there, new_there}
 
@@ -65,7 +66,8 @@ module _ (index : Index) (words : List (List ℕ)) (table : IsNameTable index wo
   -- a word has no number where it is neither that of a number in its bucket nor that of the number kept for it
   pub none_among : (start end : ℕ) → start ≡ bucket_of index.buckets.items word → start + 4 ≤ end
       → ((i n : ℕ) → start ≤ i → i < end → slice_get index.buckets.items i ≡ Some n → is_word_at words word n ≡ false)
-      → ((k : ℕ) → number_by_word index.others word ≡ Some k → is_word_at words word k ≡ false) → None ≡ number_of words word
+      → ((k : ℕ) → number_by_word index.others word ≡ Some k → IsFull index.buckets.items word → is_word_at words word k ≡ false)
+      → None ≡ number_of words word
   none_among start end begins ends not_near not_other = nowhere λ k e. by k e (table.kept k word e)
     where
       passes : (k : ℕ) → slice_get words k ≡ Some word → is_word_at words word k ≡ true
@@ -77,7 +79,54 @@ module _ (index : Index) (words : List (List ℕ)) (table : IsNameTable index wo
           let below = near.below in
           let not = not_near near.place k (omega (arith, begins, from)) (omega (arith, begins, ends, below)) near.there in
           true≢false (sym (passes k e) ∙ not)
-      by k e (inr other) = true≢false (sym (passes k e) ∙ not_other k other)
+      by k e (inr other) = true≢false (sym (passes k e) ∙ not_other k other.0 other.1)
+
+set_other : (xs : List ℕ) (place y i : ℕ) → (i ≡ place → ⊥) → slice_get (set xs place y) i ≡ slice_get xs i
+set_other [] place y i d = refl
+set_other (x ∷ xs) zero y zero d = absurd (d refl)
+set_other (x ∷ xs) zero y (suc i) d = refl
+set_other (x ∷ xs) (suc place) y zero d = refl
+set_other (x ∷ xs) (suc place) y (suc i) d = set_other xs place y i (λ e. d (ap suc e))
+
+-- a number is kept as before where one that is not above what stood there is put into a bucket
+module _ (index : Index) (new : Vec ℕ Global) (place number : ℕ) (word : List ℕ) (k : ℕ)
+    (put : new.items ≡ set index.buckets.items place number) (within : place < length index.buckets.items)
+    (over : number ≤ get_or index.buckets.items place 0) (less : k < number) where
+  same_bucket : bucket_of new.items word ≡ bucket_of index.buckets.items word
+  same_bucket = ap (λ n. bit_and (hash_of word) (n - 4)) (ap (λ numbers. length numbers) put ∙ length-set index.buckets.items place number)
+
+  full_still : IsFull index.buckets.items word → IsFull new.items word
+  full_still full n read = by (cases_eq (bucket_of index.buckets.items word + 3) place)
+    where
+      read' : slice_get (set index.buckets.items place number) (bucket_of index.buckets.items word + 3) ≡ Some n
+      read' = subst (λ xs. slice_get xs (bucket_of index.buckets.items word + 3) ≡ Some n) put (subst (λ b. slice_get new.items (b + 3) ≡ Some n) same_bucket read)
+
+      by : (bucket_of index.buckets.items word + 3 ≡ place) ⊎ (bucket_of index.buckets.items word + 3 ≡ place → ⊥) → n < 2 ^ 32 - 1
+      by (inl is) =
+          let old : get_or index.buckets.items place 0 < 2 ^ 32 - 1 =
+          full (get_or index.buckets.items place 0) (ap (slice_get index.buckets.items) is ∙ slice_get-get_or index.buckets.items place 0 within) in
+          let now : n ≡ number =
+          sym (get_or_from_slice_get (set index.buckets.items place number) place n 0 (subst (λ b. slice_get (set index.buckets.items place number) b ≡ Some n) is read'))
+          ∙ get_or-set_same index.buckets.items place number 0 within in
+          omega (arith, now, over, old)
+      by (inr other) = full n (sym (set_other index.buckets.items place number (bucket_of index.buckets.items word + 3) other) ∙ read')
+
+  near_still : IsInBucket index.buckets.items word k → IsInBucket new.items word k
+  near_still near = record {
+    place = near.place;
+    from = subst (λ b. b ≤ near.place) (sym same_bucket) near.from;
+    below = subst (λ b. near.place < b + 4) (sym same_bucket) near.below;
+    there = ap (λ xs. slice_get xs near.place) put ∙ set_other index.buckets.items place number near.place differ ∙ near.there;
+  }
+    where
+      differ : near.place ≡ place → ⊥
+      differ is =
+          let e = get_or_from_slice_get index.buckets.items place k 0 (subst (λ i. slice_get index.buckets.items i ≡ Some k) is near.there) in
+          omega (arith, e, over, less)
+
+  pub kept-set : IsKept index word k → IsKept (record { buckets = new; others = index.others }) word k
+  kept-set (inl near) = inl (near_still near)
+  kept-set (inr there) = inr (there.0, full_still there.1)
 
 -- a number is kept as before where another word's is put among the others
 pub kept-put : (index : Index) (new : BTreeMap (Vec ℕ Global) ℕ) (word other : List ℕ) (k : ℕ) → other ≢ word
@@ -85,7 +134,7 @@ pub kept-put : (index : Index) (new : BTreeMap (Vec ℕ Global) ℕ) (word other
     → IsKept index other k → IsKept (record { buckets = index.buckets; others = new }) other k
 kept-put index new word other k differ keeps (inl near) = inl near
 kept-put index new word other k differ keeps (inr there) =
-    inr (others-same word other (λ e. differ (sym e)) index.others new keeps ∙ there)
+    inr (others-same word other (λ e. differ (sym e)) index.others new keeps ∙ there.0, there.1)
 
 -- after a number was kept for a word that does not stand among the words
 module _ (old new : Index) (words : List (List ℕ)) (word : List ℕ) (kept : AreKept old words)

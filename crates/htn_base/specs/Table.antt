@@ -56,9 +56,14 @@ pub record IsInBucket (buckets word : List ℕ) (k : ℕ) : Type 0 where
   pub below : place < bucket_of buckets word + 4
   pub there : slice_get buckets place ≡ Some k
 
--- a number that is found by its word: it stands in the word's bucket, or among the others under the word
+-- the bucket of the word is full: a number stands at its last place, if there are buckets
+abbrev pub IsFull : List ℕ → List ℕ → Type 0
+IsFull buckets word = (n : ℕ) → slice_get buckets (bucket_of buckets word + 3) ≡ Some n → n < 2 ^ 32 - 1
+
+-- a number that is found by its word: it stands in the word's bucket, or, where this is full, among the others under the word
 abbrev pub IsKept : Index → List ℕ → ℕ → Type 0
-IsKept index word k = IsInBucket index.buckets.items word k ⊎ (number_by_word index.others word ≡ Some k)
+IsKept index word k = IsInBucket index.buckets.items word k
+    ⊎ ((number_by_word index.others word ≡ Some k) × IsFull index.buckets.items word)
 
 -- the number of each of these words is found by it
 abbrev pub AreKept : Index → List (List ℕ) → Type 0

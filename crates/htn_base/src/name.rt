@@ -195,6 +195,11 @@ impl NameTable {
                 }
             }
         }
+        if let Some(last) = self.index.buckets.get(start + 3) {
+            if *last == NONE {
+                return None;
+            }
+        }
         let other = Name {
             number: *self.index.others.get(word)?,
         };

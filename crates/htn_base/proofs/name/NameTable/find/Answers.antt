@@ -1,5 +1,5 @@
 use Rattle.std.specs.Option.{option_copied, option_map, option_map_or}
-use Rattle.std.proofs.Common.{◌≡◌, Some, None, false, slice_get, refl, sym, ap, subst, ◌∙◌}
+use Rattle.std.proofs.Common.{arith, ◌+◌, ◌≡◌, Some, None, false, slice_get, refl, sym, ap, subst, ◌∙◌}
 use Rattle.std.proofs.lemmas.Bool.{lt-ltb, true≢false}
 use Rattle.std.proofs.lemmas.Option.{slice_get_read, slice_get_within}
 use Rattle.htn_base.specs.Table.{number_of, bucket_of, is_word_at, number_by_word}
@@ -39,10 +39,10 @@ returns-in_err-get-clause-number c =
     let word = c.args.word.now in
     let begins = c.bucket_of-start.ensures.start ∙ ap (λ numbers. bucket_of numbers word) c.deref.ensures.value in
     let none : number_by_word table.index.others word ≡ None =
-    sym c.get-2.ensures.value ∙ ap (λ found. option_copied found) c.in_err-get.was in
+    sym c.get-3.ensures.value ∙ ap (λ found. option_copied found) c.in_err-get.was in
     ap (λ found. option_map (λ name. name.number) found) c.from_residual.ensures
     ∙ none_among table.index table.words c.self.invariant word _ _ begins c.loop-place-test.false c.loop-place.invariant
-    (λ k put. cc (none, put))
+    (λ k put full. cc (none, put))
     ∙ ap (λ words. number_of words word) c.self.view_is
 
 pub returns-then-is_at-2-clause-number : goal.returns-then-is_at-2-clause-number
@@ -58,8 +58,23 @@ returns-clause-number c =
     let word = c.args.word.now in
     let begins = c.bucket_of-start.ensures.start ∙ ap (λ numbers. bucket_of numbers word) c.deref.ensures.value in
     let is : number_by_word table.index.others word ≡ Some c.in_ok-get.field-0.now =
-    sym c.get-2.ensures.value ∙ ap (λ found. option_copied found) c.in_ok-get.was in
+    sym c.get-3.ensures.value ∙ ap (λ found. option_copied found) c.in_ok-get.was in
     none_among table.index table.words c.self.invariant word _ _ begins c.loop-place-test.false c.loop-place.invariant
-    (λ k put. subst (λ n. option_map_or (is_word_at table.words word) n false ≡ false) (sym is ∙ put)
+    (λ k put full. subst (λ n. option_map_or (is_word_at table.words word) n false ≡ false) (sym is ∙ put)
     (sym c.is_at-2.ensures ∙ c.if-is_at-2.false))
+    ∙ ap (λ words. number_of words word) c.self.view_is
+
+pub returns-then-last-clause-number : goal.returns-then-last-clause-number
+returns-then-last-clause-number c =
+    let table = c.self.inside in
+    let word = c.args.word.now in
+    let numbers = table.index.buckets.items in
+    let begins = c.bucket_of-start.ensures.start ∙ ap (λ numbers. bucket_of numbers word) c.deref.ensures.value in
+    let found = c.in-Some-get.ensures.lookup in
+    let read = slice_get_read c.deref-2.result.now _ (c.bucket_of-start.result + 3) c.in-Some-get.last.now refl found.3.0 found.1 in
+    let last : slice_get numbers (bucket_of numbers word + 3) ≡ Some c.in-Some-get.last.now =
+    ap (λ start. slice_get numbers (start + 3)) (sym begins)
+    ∙ ap (λ ns. slice_get ns (c.bucket_of-start.result + 3)) (sym c.deref-2.ensures.value) ∙ read in
+    none_among table.index table.words c.self.invariant word _ _ begins c.loop-place-test.false c.loop-place.invariant
+    (λ k put full. let less = full _ last in absurd (omega (arith, less, c.if-last.true)))
     ∙ ap (λ words. number_of words word) c.self.view_is
