@@ -26,5 +26,5 @@ mod words;
 pub use laws::{a_text_spells_one_hplan, printed_plans_are_read_back};
 pub use printing::print;
 pub use reading::read;
-pub use showing::{each_tree_shows_one_plan, show};
+pub use showing::{each_tree_shows_one_plan, show, shown_plans_are_read_back};
 pub use values::{HLine, HNode, HPlan};
