@@ -1,5 +1,5 @@
 -- The plan that a run of a sound problem shows can be printed and is sound, so its text is read back.
-use Rattle.std.proofs.Common.{◌<◌, ◌^◌, length, sym, ap, ◌∙◌, arith}
+use Rattle.std.proofs.Common.{◌<◌, ◌^◌, length, ap, arith}
 use Rattle.plan_model.specs.declared.values.Compiled.{Compiled}
 use Rattle.plan_model.specs.task_networks.Preorder.{preorder}
 use Rattle.plan_model.specs.plan_meaning.Network.{network}

@@ -1,14 +1,14 @@
 -- The plan that a finished tree shows is sound: its ids are the numbers of the shown nodes, each listed at its parent.
-use Rattle.std.proofs.Common.{ℕ, zero, suc, ◌≡◌, ◌+◌, ◌<◌, inl, inr, List, [], ◌∷◌, ◌++◌, length, map, filter, Bool, true, false, Option, Some, None, slice_get, refl, ap, ap₂, sym, subst, ◌∙◌, Contains, arith}
+use Rattle.std.proofs.Common.{ℕ, zero, suc, ◌≡◌, ◌+◌, ◌<◌, inl, inr, List, [], ◌∷◌, ◌++◌, length, map, true, false, Option, Some, None, slice_get, refl, ap, ap₂, sym, subst, ◌∙◌, Contains, arith}
 use Rattle.std.proofs.lemmas.List.{length-append}
 use Rattle.std.proofs.lemmas.List.Elements.{Contains-append_cases}
 use Rattle.htn_base.specs.Different.{AreDifferent}
 use Rattle.plan_model.specs.declared.values.Compiled.{Compiled}
 use Rattle.plan_model.specs.task_networks.Net.{count}
-use Rattle.plan_model.specs.task_networks.Tree.{Tree, Trees, split, Label, waits, ran, used, Address, at, label, label_at, works_of, IsAddress}
+use Rattle.plan_model.specs.task_networks.Tree.{Tree, split, Label, waits, ran, used, Address, at, label, label_at, IsAddress}
 use Rattle.plan_model.specs.task_networks.Front.{IsFinished}
 use Rattle.plan_model.specs.task_networks.Spelling.{numbers}
-use Rattle.plan_model.specs.plan_meaning.Network.{Work, action, check, task, GroundMethod, network}
+use Rattle.plan_model.specs.plan_meaning.Network.{action, check, task, GroundMethod, network}
 use Rattle.plan_model.specs.plan_meaning.Solution.{top_work}
 use Rattle.plan_model.proofs.task_networks.Different.{different_append}
 use Rattle.plan_model.proofs.task_networks.Filters.{filter_to, to_filter, different-filter}
@@ -17,14 +17,14 @@ use Rattle.plan_model.proofs.task_networks.Nodes.{parent, grown_at}
 use Rattle.plan_model.proofs.task_networks.Numbers.{numbers_to, to_numbers, different-numbers}
 use Rattle.plan_texts.specs.Types.{Has}
 use Rattle.plan_texts.proofs.Members.{contains-has, has-contains, has-to_map}
-use Rattle.tree_core.proofs.Gets.{get_cases, get_within, get_some, place_of, at_place, one_place}
+use Rattle.tree_core.proofs.Gets.{get_cases, get_within, get_some, at_place, one_place}
 use Rattle.std.proofs.Common.{option_map}
 use Rattle.hplan_text.specs.declared.values.HLine.{HLine}
 use Rattle.hplan_text.specs.declared.values.HNode.{HNode}
 use Rattle.hplan_text.specs.declared.values.HPlan.{HPlan}
 use Rattle.hplan_text.specs.HPlanFaults.{Reaches, lists, leads}
 use Rattle.hplan_text.specs.Printable.{line_id, node_id, task_ids, listed_by, all_ids, IsSoundHPlan}
-use Rattle.hplan_text.specs.ShownPlan.{is_primitive, is_decomposed, is_lower, is_shown, primitives_in, lower_in, numbered, AreIds, shown_children, ArePrimitives, IsNode, AreNodes, ShowsHPlan}
+use Rattle.hplan_text.specs.ShownPlan.{is_primitive, is_lower, is_shown, primitives_in, lower_in, numbered, AreIds, shown_children, ArePrimitives, IsNode, AreNodes, ShowsHPlan}
 use Rattle.hplan_text.proofs.ShownOnce.{map_to, order_once, primitive_label, lower_label, numbered_once, has_number}
 use Rattle.hplan_text.proofs.ShownChildren.{child_within}
 

@@ -1,8 +1,7 @@
 -- The words and ids of the plan that a finished tree of a sound problem shows can be printed.
-use Rattle.std.proofs.Common.{ℕ, zero, suc, ◌≡◌, ◌+◌, ◌<◌, ◌≤◌, ◌^◌, ◌==◌, ◌&&◌, ◌||◌, inl, inr, List, [], ◌∷◌, ◌++◌, codes, length, map, Bool, true, false, not, Option, Some, None, option_map, slice_get, slice_index_or, refl, ap, ap₂, sym, subst, ◌∙◌, Contains, arith}
+use Rattle.std.proofs.Common.{ℕ, zero, suc, ◌≡◌, ◌+◌, ◌<◌, ◌≤◌, ◌^◌, ◌==◌, ◌&&◌, inl, inr, List, [], ◌∷◌, ◌++◌, codes, length, map, true, not, Some, slice_get, slice_index_or, refl, ap, ap₂, sym, subst, ◌∙◌, Contains, arith}
 use Rattle.std.specs.Char.{to_ascii_lowercase}
 use Rattle.std.specs.List.{list_all}
-use Rattle.std.specs.Option.{option_map_or}
 use Rattle.std.proofs.lemmas.Bool.{eqb-true}
 use Rattle.std.proofs.lemmas.Bool.Decides.{nat_tests}
 use Rattle.htn_base.specs.Words.{IsFolded}
@@ -11,7 +10,6 @@ use Rattle.text_forms.specs.Printing.{are_folded}
 use Rattle.text_forms.specs.Words as words
 use Rattle.text_forms.specs.Words.{Word, word_at}
 use Rattle.plan_model.specs.declared.options.Checks.{Checks}
-use Rattle.plan_model.specs.declared.networks.Child.{Child}
 use Rattle.plan_model.specs.declared.terms.Param.{Param}
 use Rattle.plan_model.specs.declared.types.Object.{Object}
 use Rattle.plan_model.specs.declared.schemas.TaskSchema.{TaskSchema}
@@ -20,11 +18,11 @@ use Rattle.plan_model.specs.declared.schemas.MethodSchema.{MethodSchema}
 use Rattle.plan_model.specs.declared.schemas.MethodPlan.{MethodPlan}
 use Rattle.plan_model.specs.declared.values.Hddl.{Hddl}
 use Rattle.plan_model.specs.declared.values.Compiled.{Compiled}
-use Rattle.plan_model.specs.task_networks.Tree.{Tree, Trees, none, more, done, split, ran, used, Address, at, label, label_at, work_of, works_of, child_at}
+use Rattle.plan_model.specs.task_networks.Tree.{Tree, Trees, none, more, done, split, ran, used, Address, at, label_at, work_of, works_of, child_at}
 use Rattle.plan_model.specs.task_networks.Front.{IsFinished}
 use Rattle.plan_model.specs.task_networks.Preorder.{preorder}
 use Rattle.plan_model.specs.plan_meaning.Truth.{AreTyped}
-use Rattle.plan_model.specs.plan_meaning.Network.{Work, action, check, task, GroundMethod, network, InTypeOf, AreParamsOf, objects_of, IsDeclared, IsGroundMethod, IsPrimitive, child_of, decomposed, subtasks_of}
+use Rattle.plan_model.specs.plan_meaning.Network.{Work, action, check, task, GroundMethod, network, InTypeOf, objects_of, IsDeclared, IsGroundMethod, child_of, decomposed}
 use Rattle.plan_model.specs.plan_meaning.Solution.{top_work}
 use Rattle.plan_model.specs.plan_meaning.Compilation.{IsMethodPlan, IsCompiled}
 use Rattle.plan_model.proofs.plan_meaning.CompiledNetworks.{plan_of}
@@ -41,20 +39,16 @@ use Rattle.plan_texts.specs.SoundProblem.{IsSoundProblem}
 use Rattle.plan_texts.specs.Declared.{named}
 use Rattle.plan_texts.proofs.Basics.{no_keyword}
 use Rattle.plan_texts.proofs.Members.{each-has, contains-has, has-to_map}
-use Rattle.tree_core.specs.Labels.{labels, labelled}
-use Rattle.tree_core.specs.Tables.{Row, table}
 use Rattle.tree_core.proofs.Gets.{get_left, get_right, get_within, place_of, at_place}
-use Rattle.tree_core.proofs.Labelled.{preorder-labelled}
-use Rattle.tree_core.proofs.Siblings.{as_many}
 use Rattle.hplan_text.specs.declared.values.HLine.{HLine}
 use Rattle.hplan_text.specs.declared.values.HNode.{HNode}
 use Rattle.hplan_text.specs.declared.values.HPlan.{HPlan}
-use Rattle.hplan_text.specs.Rows.{is_word_byte, is_arrow, is_name}
+use Rattle.hplan_text.specs.Rows.{is_word_byte}
 use Rattle.hplan_text.specs.Printable.{IsPrintableWord, IsSmall, IsPrintableLine, IsPrintableNode, IsPrintableHPlan}
-use Rattle.hplan_text.specs.ShownPlan.{source_word, object_name_by, object_name, action_name_by, task_name_by, method_name_by, name_of, line_of, is_primitive, is_lower, primitives_in, lower_in, numbered, AreIds, shown_children, ArePrimitives, IsNode, AreNodes, ShowsHPlan}
+use Rattle.hplan_text.specs.ShownPlan.{source_word, object_name_by, object_name, action_name_by, task_name_by, method_name_by, name_of, line_of, is_primitive, primitives_in, lower_in, numbered, AreIds, shown_children, ArePrimitives, AreNodes, ShowsHPlan}
 use Rattle.hplan_text.proofs.LeastFound.{has-left, has-right}
 use Rattle.hplan_text.proofs.PrintedRows.{first-of, second-of}
-use Rattle.hplan_text.proofs.ShownOnce.{map_to, primitive_label, lower_label, numbered_once, split_at, done_at}
+use Rattle.hplan_text.proofs.ShownOnce.{map_to, numbered_once, split_at, done_at}
 use Rattle.hplan_text.proofs.ShownSound.{numbered_address, not_top}
 
 -- plain words
