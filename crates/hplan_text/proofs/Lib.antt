@@ -20,4 +20,7 @@ pub mod ShownOnce
 pub mod ShownRows
 pub mod ShownChildren
 pub mod ShownWhole
+pub mod ShownSound
+pub mod ShownWords
+pub mod ShownBack
 pub mod examples

@@ -44,7 +44,7 @@ check_same c (Some (ran (action a args))) = refl
 check_same c (Some (ran (check m values))) = refl
 check_same c (Some (ran (task t args))) = refl
 
-child_within : (c : Compiled) (ts : Trees (network c)) (i : ℕ) (t : Tree (network c)) → child_at (network c) ts i ≡ Some t → i < length (works_of (network c) ts)
+pub child_within : (c : Compiled) (ts : Trees (network c)) (i : ℕ) (t : Tree (network c)) → child_at (network c) ts i ≡ Some t → i < length (works_of (network c) ts)
 child_within c none i t e = absurd cc
 child_within c (more u ts) zero t e = omega arith
 child_within c (more u ts) (suc i) t e = let h = child_within c ts i t e in omega arith

@@ -24,7 +24,7 @@ use Rattle.plan_model.proofs.task_networks.Nodes.{grown_at, child_in, child_belo
 use Rattle.tree_core.proofs.Gets.{place_of, one_place}
 use Rattle.tree_core.proofs.GrowthLaws.{once}
 
-map_to : {A B : Type 0} (f : A → B) (xs : List A) (y : B) → Contains (map f xs) y → (x : A) × Contains xs x × (f x ≡ y)
+pub map_to : {A B : Type 0} (f : A → B) (xs : List A) (y : B) → Contains (map f xs) y → (x : A) × Contains xs x × (f x ≡ y)
 map_to f [] y c = absurd (not-in_empty y c)
 map_to f (x ∷ xs) y c = elim (head_or_tail (f x) (map f xs) y c) [ inl e ↦ (x, Contains-here x xs, e) | inr d ↦ (let h = map_to f xs y d in (h.0, Contains-later x xs h.0 h.1, h.2)) ]
 
@@ -49,13 +49,13 @@ module _ (c : Compiled) where
   lower_label (i ∷ q) None e = absurd cc
 
   module _ (tree : Tree (network c)) (order : List Address) (f : IsFinished (network c) (top_work c) tree order) where
-    different : AreDifferent order
-    different = once (network c) tree order f.front.schedule order [] (sym (append-nil order))
+    pub order_once : AreDifferent order
+    order_once = once (network c) tree order f.front.schedule order [] (sym (append-nil order))
 
     pub numbered_once : AreDifferent (numbered c tree order)
     numbered_once = different_append (primitives_in c tree order) (lower_in c tree order)
-        (different-filter (λ p. is_primitive c (label_at (network c) tree p)) order different)
-        (different-filter (λ p. is_lower c p (label_at (network c) tree p)) order different)
+        (different-filter (λ p. is_primitive c (label_at (network c) tree p)) order order_once)
+        (different-filter (λ p. is_lower c p (label_at (network c) tree p)) order order_once)
         (λ p x y. (
         let a = primitive_label (label_at (network c) tree p) (filter_to (λ p. is_primitive c (label_at (network c) tree p)) order p x).1 in
         let d = lower_label p (label_at (network c) tree p) (filter_to (λ p. is_lower c p (label_at (network c) tree p)) order p y).1 in
@@ -74,7 +74,7 @@ module _ (c : Compiled) where
         go (Some (done w)) a e = absurd cc
         go (Some (split h ts)) a e = (ts, a ∙ ap (λ z. Some (split z ts)) (let x : h ≡ g = cc in x))
 
-    done_at : (q : Address) (w : Work) → label_at (network c) tree q ≡ Some (ran w) → at (network c) tree q ≡ Some (done w)
+    pub done_at : (q : Address) (w : Work) → label_at (network c) tree q ≡ Some (ran w) → at (network c) tree q ≡ Some (done w)
     done_at q w e = go (at (network c) tree q) refl e
       where
         go : (o : Option (Tree (network c))) → at (network c) tree q ≡ o → option_map (label (network c)) o ≡ Some (ran w) → at (network c) tree q ≡ Some (done w)

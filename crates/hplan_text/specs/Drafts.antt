@@ -1,14 +1,17 @@
 -- What was read of some lines.
 -- Source: this project's.
-use Rattle.std.specs.Prelude.{ℕ, ◌≡◌, ◌⊎◌, Bool, true, false, List, [], ◌∷◌, map, drop, Option, Some, None}
+use Rattle.std.specs.Prelude.{ℕ, ◌≡◌, ◌⊎◌, Bool, true, false, List, [], ◌∷◌, ◌++◌, map, drop, Option, Some, None}
 use Rattle.text_forms.specs.Faults.{Fault, fault, IsBefore}
 use Rattle.hplan_text.specs.declared.values.HLine.{HLine}
 use Rattle.hplan_text.specs.declared.draft.Draft.{Draft}
+use Rattle.hplan_text.specs.declared.lines.Word.{Word}
+use Rattle.hplan_text.specs.declared.mention.Mention.{Mention}
 use Rattle.text_forms.specs.declared.sexpr_text.read_error.ReadError.{ReadError}
 use Rattle.text_forms.specs.declared.sexpr_text.read_error.ReadError.TheVariants as errors
 use Rattle.hplan_text.specs.declared.least.Found.{Found}
 use Rattle.hplan_text.specs.Lines.{Said, Line, Marked}
-use Rattle.hplan_text.specs.Rows.{row}
+use Rattle.hplan_text.specs.Rows.{Row, primitive, decomposed, row}
+use Rattle.hplan_text.specs.Scanning.{lower, mentions_of, AreNames}
 use Rattle.hplan_text.specs.SpellsHPlan.{rows, own_ids, all_listed, tops, plan_of}
 use Rattle.hplan_text.specs.HPlanFaults.{bad_places, top_places, line_faults, id_faults, IsUnreached}
 use Rattle.hplan_text.specs.LeastOf.{as_fault, IsLeastOf}
@@ -30,6 +33,25 @@ pub record IsDraft (lines : List Line) (d : Draft) : Type 0 where
   pub rooted : d.rooted ≡ are_some (tops (map row lines))
   pub bad_ones : IsLeastOf d.bad (map (fault 31) (bad_places lines))
   pub second : IsLeastOf d.second (map (fault 31) (drop 1 (top_places lines)))
+
+-- with these lines behind those that were read
+abbrev pub Adds : List Line → (old new : Draft) → Type 0
+Adds more old new = (ls : List Line) → IsDraft ls old → IsDraft (ls ++ more) new
+
+-- with a line that says this; and with one at this place
+abbrev pub AddsRow : Row → (old new : Draft) → Type 0
+AddsRow r old new = (ls : List Line) (l : Line) → IsDraft ls old → row l ≡ r → IsDraft (ls ++ l ∷ []) new
+
+abbrev pub AddsRowAt : ℕ → Row → (old new : Draft) → Type 0
+AddsRowAt at r old new = (ls : List Line) (l : Line) → IsDraft ls old → row l ≡ r → l.first.at ≡ at → IsDraft (ls ++ l ∷ []) new
+
+-- with a line of the task of an id and these names, which is primitive, or is decomposed by a method into tasks
+abbrev pub AddsPrimitive : Mention → List Word → (old new : Draft) → Type 0
+AddsPrimitive own ws old new = (name : List ℕ) (args : List (List ℕ)) → AreNames ws name args → AddsRow (primitive own name args) old new
+
+abbrev pub AddsNode : Mention → List Word → Word → List Word → (old new : Draft) → Type 0
+AddsNode own ws method ids old new =
+    (name : List ℕ) (args : List (List ℕ)) → AreNames ws name args → AddsRow (decomposed own name args (lower method) (mentions_of ids)) old new
 
 abbrev pub between : List Line → ℕ → Marked
 between ls end = record { lines = ls; end = end }

@@ -13,6 +13,11 @@ pub record IsHPlanRead (text : List ℕ) (plan : HPlan) : Type 0 where
   pub faultless : IsFaultless text
   pub spelled : SpellsHPlan text plan
 
+-- and it spells no other plan
+pub record IsReadAlone (text : List ℕ) (plan : HPlan) : Type 0 where
+  pub read : IsHPlanRead text plan
+  pub only : (other : HPlan) → SpellsHPlan text other → other ≡ plan
+
 -- why a text isn't read as a hierarchical plan; or memory ran out
 abbrev pub RefusesHPlan : ℕ → List ℕ → ReadError → Type 0
 RefusesHPlan file text errors.Memory = Unit {0}

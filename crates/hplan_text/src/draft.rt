@@ -1,9 +1,9 @@
-ghost use Rattle.std.specs.Prelude.{ℕ, List, ◌≡◌, ◌∷◌, [], ◌++◌, map, true, IfOk, OnOk};
+ghost use Rattle.std.specs.Prelude.{◌≡◌, ◌∷◌, [], ◌++◌, map, true, IfOk, OnOk};
 ghost use Rattle.std.specs.List.{list_all, cons_option};
-ghost use Rattle.hplan_text.specs.Lines.{Line, some_line};
+ghost use Rattle.hplan_text.specs.Lines.{some_line};
 ghost use Rattle.hplan_text.specs.Rows as spec;
-ghost use Rattle.hplan_text.specs.Scanning.{as_said, as_line, is_id_word, lower, names_of, mentions_of};
-ghost use Rattle.hplan_text.specs.Drafts.{IsTask, IsDraft};
+ghost use Rattle.hplan_text.specs.Scanning.{as_said, as_line, is_id_word, names_of, mentions_of};
+ghost use Rattle.hplan_text.specs.Drafts.{IsTask, IsDraft, Adds, AddsRowAt, AddsPrimitive, AddsNode};
 
 use crate::least::{Found, least};
 use crate::lines::Word;
@@ -127,7 +127,7 @@ impl Draft {
 
     // A line without a form.
     fn add_bad(&mut self, at: u32)
-        ensures added { (ls : List Line) (l : Line) → IsDraft ls self.old → spec.row l ≡ spec.bad → l.first.at ≡ at → IsDraft (ls ++ l ∷ []) self.new }
+        ensures added { AddsRowAt at spec.bad self.old self.new }
     {
         self.bad = least(self.bad, Some(Found { at, code: BAD_LINE }));
     }
@@ -135,8 +135,7 @@ impl Draft {
     // A root line.
     fn add_root(&mut self, alloc: Global, at: u32, ids: &[Word<'_>]) -> Result<(), Memory>
         requires ids { list_all is_id_word ids.now ≡ true }
-        ensures added { OnOk result ((ls : List Line) (l : Line) → IsDraft ls self.old → spec.row l ≡ spec.top (mentions_of ids.now) → l.first.at ≡ at
-            → IsDraft (ls ++ l ∷ []) self.new) }
+        ensures added { OnOk result (AddsRowAt at (spec.top (mentions_of ids.now)) self.old self.new) }
     {
         let root = list_ids(alloc, ids, &mut self.listed)?;
         if self.rooted {
@@ -156,8 +155,7 @@ impl Draft {
         own: Mention,
         names: &[Word<'_>],
     ) -> Result<(), Memory>
-        ensures added { OnOk result ((ls : List Line) (l : Line) (name : List ℕ) (args : List (List ℕ)) → IsDraft ls self.old → names_of names.now ≡ name ∷ args
-            → spec.row l ≡ spec.primitive own name args → IsDraft (ls ++ l ∷ []) self.new) }
+        ensures added { OnOk result (AddsPrimitive own names.now self.old self.new) }
     {
         let line = task(alloc, own.id, names)?;
         self.plan.primitives.push(line)?;
@@ -175,8 +173,7 @@ impl Draft {
         ids: &[Word<'_>],
     ) -> Result<(), Memory>
         requires ids { list_all is_id_word ids.now ≡ true }
-        ensures added { OnOk result ((ls : List Line) (l : Line) (name : List ℕ) (args : List (List ℕ)) → IsDraft ls self.old → names_of names.now ≡ name ∷ args
-            → spec.row l ≡ spec.decomposed own name args (lower method.entry) (mentions_of ids.now) → IsDraft (ls ++ l ∷ []) self.new) }
+        ensures added { OnOk result (AddsNode own names.now method.entry ids.now self.old self.new) }
     {
         let ids = list_ids(alloc, ids, &mut self.listed)?;
         let method = in_lower_case(alloc, method.bytes)?;
@@ -193,7 +190,7 @@ impl Draft {
         first: Word<'_>,
         more: &[Word<'_>],
     ) -> Result<(), Memory>
-        ensures added { OnOk result ((ls : List Line) → IsDraft ls self.old → IsDraft (ls ++ as_line first.entry more.now ∷ []) self.new) }
+        ensures added { OnOk result (Adds (as_line first.entry more.now ∷ []) self.old self.new) }
     {
         match read_row(first, more) {
             Row::Bad => {
@@ -210,7 +207,7 @@ impl Draft {
 
     /// Adds a line by its words, if it has any.
     pub(crate) fn add_line(&mut self, alloc: Global, words: &[Word<'_>]) -> Result<(), Memory>
-        ensures added { OnOk result ((ls : List Line) → IsDraft ls self.old → IsDraft (ls ++ cons_option (some_line (map as_said words.now)) []) self.new) }
+        ensures added { OnOk result (Adds (cons_option (some_line (map as_said words.now)) []) self.old self.new) }
     {
         match words {
             [] => Ok(()),

@@ -1,6 +1,6 @@
 ghost use Rattle.std.specs.Prelude.{ℕ, ◌≡◌, ◌+◌, ◌<◌, ◌≤◌, ◌++◌, [], ◌∷◌, true, false, Some, length, drop, map, slice_get, IfOk, OnOk};
 ghost use Rattle.tree_core.specs.Runs.{label_in, end_in};
-ghost use Rattle.hplan_text.specs.ShownLaws.{EachIsShownOnce, IsShown};
+ghost use Rattle.hplan_text.specs.ShownLaws.{EachIsShownOnce, IsShown, ShownPlansAreSound, ShownPlansAreReadBack};
 ghost use Rattle.hplan_text.specs.ShownPlan.{source_word, object_name};
 ghost use Rattle.hplan_text.specs.Showing.{is_primitive_label, is_check_label, is_lower_place, label_name, label_args, label_line, label_method, primitives_among, lower_among, HaveNumbers, ListsChildren, lines_at, IsNodeAt, AreNodesAt};
 
@@ -14,6 +14,16 @@ use tree_core::{Label, Scheduled, Tree};
 pub fn each_tree_shows_one_plan(compiled: &Compiled)
     ensures { EachIsShownOnce compiled.now }
 {}
+
+/// The plan that is shown can be printed and is sound, where the run stands for a finished tree, and for its schedule, of what is
+/// compiled of a sound problem. Then its text has no fault, and spells this plan alone.
+pub fn shown_plans_are_read_back(compiled: &Compiled, run: &Scheduled)
+    ensures sound { ShownPlansAreSound compiled.now run.now }
+    ensures back { ShownPlansAreReadBack compiled.now run.now }
+{
+    // Each id is below the number of nodes, which has 32 bits.
+    let _ = run.tree.size();
+}
 
 /// The plan that a finished tree of the compiled problem and its order show: the primitives are numbered in the order, then
 /// the abstract nodes but the root. Checks and the arguments of methods are left out, and names are the source's, in lower

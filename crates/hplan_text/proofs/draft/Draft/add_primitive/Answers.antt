@@ -11,7 +11,7 @@ pub returns : goal.returns
 returns c =
     let d = c.args.self.now in
     record {
-      added = λ ls l name args h n is. adds-other ls l d _ h (primitive c.args.own name args) is refl refl
+      added = λ name args n ls l h is. adds-other ls l d _ h (primitive c.args.own name args) is refl refl
           (c.in_ok-push.ensures.pushed ∙ ap (λ z. d.plan.primitives ++ z ∷ []) (subst (λ ns. IsTask c.args.own.id ns c.in_ok-line.line) n c.in_ok-line.ensures))
           refl (put-none d.plan.nodes) c.in_ok-push-2.ensures.items (sym (append-nil d.listed.items)) refl (no-more d.bad (map (fault 31) (bad_places ls)) h.bad_ones) refl;
     }
