@@ -1,0 +1,2 @@
+-- The latest schedule of a tree.
+pub mod latest
