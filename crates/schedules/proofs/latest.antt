@@ -23,6 +23,7 @@ pub mod Queue
 pub mod Rearranged
 pub mod Renumbered
 pub mod LinesOfTrees
+pub mod GrownTrees
 pub mod ShownTrees
 pub mod SameTrees
 pub mod ShownTheorem

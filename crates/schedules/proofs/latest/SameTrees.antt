@@ -1,23 +1,23 @@
 -- Two trees of one plan have the same shape, and its lines have the same nodes in both.
-use Rattle.std.proofs.Common.{ℕ, zero, suc, ◌≡◌, inl, inr, List, [], ◌∷◌, length, map, filter, slice_get, Option, Some, None, option_map, Bool, true, false, not, refl, ap, sym, subst, ◌∙◌, Contains, arith}
+use Rattle.std.proofs.Common.{ℕ, ◌≡◌, inl, inr, List, [], ◌∷◌, length, map, filter, slice_get, Option, Some, None, option_map, Bool, true, false, not, refl, ap, sym, subst, ◌∙◌, Contains, arith}
 use Rattle.std.proofs.lemmas.Option.{slice_get-map, slice_get_within}
 use Rattle.std.proofs.lemmas.List.{length-map}
 use Rattle.std.proofs.lemmas.List.Elements.{Contains-append_left, filter_agree}
 use Rattle.plan_model.specs.task_networks.Net.{Net, count}
-use Rattle.plan_model.specs.task_networks.Tree.{Tree, Trees, open_leaf, done, split, none, more, Label, waits, ran, used, Address, at, child_at, label, label_at, work_of, works_of, IsAddress, IsOpen, IsGrown}
+use Rattle.plan_model.specs.task_networks.Tree.{Tree, open_leaf, done, split, Label, waits, ran, used, Address, label, label_at, work_of, IsAddress, IsOpen, IsGrown}
 use Rattle.plan_model.specs.task_networks.Spelling.{numbers}
 use Rattle.plan_model.proofs.task_networks.Filters.{to_filter}
 use Rattle.plan_model.proofs.task_networks.Lists.{head_or_tail, not-in_empty}
 use Rattle.plan_model.proofs.task_networks.Numbers.{to_numbers}
-use Rattle.plan_model.proofs.task_networks.Nodes.{parent, grown_at}
 use Rattle.schedules.specs.latest.Execution.{SameKind}
 use Rattle.schedules.specs.latest.ShownLaws.{AreToldAlike}
 use Rattle.schedules.specs.latest.PlanLines.{SplitLine, PlanLines, step_ids, line_ids, IsId, renamed_step, renamed_split}
 use Rattle.schedules.specs.latest.Shown.{PlanWords, SaysTheSame, AreTelling, is_shown, shown_children, children_of_label, split_of_label, children_shown, split_line, IsTreeFor, step_nodes}
-use Rattle.plan_model.proofs.task_networks.Parents.{split_at, child_label, parent_label, parent_address}
+use Rattle.plan_model.proofs.task_networks.Parents.{child_label, parent_label, parent_address}
 use Rattle.plan_model.proofs.plan_meaning.Pairs.{map_to}
 use Rattle.schedules.proofs.latest.Rearranged.{in_map, map_same}
 use Rattle.schedules.proofs.latest.Renumbered.{id_of_step, id_of_split, line_of}
+use Rattle.schedules.proofs.latest.GrownTrees.{tree_there, ground_at, its_work}
 use Rattle.schedules.proofs.latest.LinesOfTrees.{step_node, split_node, step_of, split_of, shown_has_line, split_children}
 
 not_both : (b : Bool) → b ≡ true → b ≡ false → ⊥
@@ -49,7 +49,7 @@ module _ (N : Net) (W : PlanWords N) where
     same_count : (m n : N.Method) → N.IsGround m → N.IsGround n → W.split m ≡ W.split n → count N m ≡ count N n
     same_count m n a b e = let x = length-map (N.works m) W.is_check in let y = length-map (N.works n) W.is_check in let z = ap length (told.checks m n a b e) in omega arith
 
-    same_children : (m n : N.Method) → N.IsGround m → N.IsGround n → W.split m ≡ W.split n → shown_children N W m ≡ shown_children N W n
+    pub same_children : (m n : N.Method) → N.IsGround m → N.IsGround n → W.split m ≡ W.split n → shown_children N W m ≡ shown_children N W n
     same_children m n a b e =
         filter_agree (λ i. is_shown N W (slice_get (N.works m) i)) (λ i. is_shown N W (slice_get (N.works n) i)) (λ i. shown_alike (slice_get (N.works m) i) (slice_get (N.works n) i) (checks_at m n a b e i)) (numbers 0 (count N m))
         ∙ ap (λ k. filter (λ i. is_shown N W (slice_get (N.works n) i)) (numbers 0 k)) (same_count m n a b e)
@@ -65,37 +65,11 @@ module _ (N : Net) (W : PlanWords N) where
     abbrev Plan : Type 0
     Plan = PlanLines ℕ W.Step W.Split
 
-    ground_at : (tree : Tree N) → IsGrown N tree → (q : Address) (m : N.Method) → label_at N tree q ≡ Some (used m) → N.IsGround m
-    ground_at tree g q m e = let (ts, a) = split_at N tree q m e in (grown_at N tree q (split m ts) g a).0
-
     root_method : (tree : Tree N) → IsGrown N tree → work_of N tree ≡ top → ((p : Address) → IsOpen N tree p → ⊥)
         → (m : N.Method) × (label_at N tree [] ≡ Some (used m)) × (N.head m ≡ top)
     root_method (open_leaf w) g e n = absurd (n [] (w, refl))
     root_method (done w) g e n = absurd (told.top_is_task (subst N.IsSimple e g))
     root_method (split m ts) g e n = (m, refl, e)
-
-    -- the work of a node in its parent's method
-    work_in : (ts : Trees N) (i : ℕ) (t : Tree N) → child_at N ts i ≡ Some t → slice_get (works_of N ts) i ≡ Some (work_of N t)
-    work_in none i t e = absurd cc
-    work_in (more u ts) zero t e = ap (λ z. Some (work_of N z)) (let f : u ≡ t = cc in f)
-    work_in (more u ts) (suc i) t e = work_in ts i t e
-
-    tree_there : (tree : Tree N) (p : Address) → IsAddress N tree p
-        → (t : Tree N) × (at N tree p ≡ Some t) × (label_at N tree p ≡ Some (label N t))
-    tree_there tree p (l, e) = go (at N tree p) refl e
-      where
-        go : (o : Option (Tree N)) → at N tree p ≡ o → option_map (label N) o ≡ Some l
-            → (t : Tree N) × (at N tree p ≡ Some t) × (label_at N tree p ≡ Some (label N t))
-        go None f c = absurd cc
-        go (Some t) f c = (t, f, ap (option_map (label N)) f)
-
-    its_work : (tree : Tree N) → IsGrown N tree → (i : ℕ) (q : Address) (m : N.Method) → label_at N tree q ≡ Some (used m) → (t : Tree N)
-        → at N tree (i ∷ q) ≡ Some t → slice_get (N.works m) i ≡ Some (work_of N t)
-    its_work tree g i q m e t f =
-        let (n, ts, h, c) = parent N tree i q t f in
-        let grown = grown_at N tree q (split n ts) g h in
-        let same : n ≡ m = (let k = ap (option_map (label N)) h in cc) in
-        subst (λ z. slice_get (N.works z) i ≡ Some (work_of N t)) same (ap (λ z. slice_get z i) (sym grown.1) ∙ work_in ts i t c)
 
     module _ (plan : Plan) where
       -- the children of a node, by ids
@@ -181,7 +155,7 @@ module _ (N : Net) (W : PlanWords N) where
         ]
           where
             both : map node a.listed ≡ map another a.listed
-            both = a.here ∙ ap (λ z. children_of_label N W z q) e ∙ ap (map (λ i. i ∷ q)) (same_children m n (ground_at tree t.grown q m e) (ground_at other o.grown q n f) g) ∙ sym (a.there ∙ ap (λ z. children_of_label N W z q) f)
+            both = a.here ∙ ap (λ z. children_of_label N W z q) e ∙ ap (map (λ i. i ∷ q)) (same_children m n (ground_at N tree t.grown q m e) (ground_at N other o.grown q n f) g) ∙ sym (a.there ∙ ap (λ z. children_of_label N W z q) f)
 
             same_node : (i : ℕ) → IsId plan i → node i ≡ k ∷ q → another i ≡ k ∷ q
             same_node i b x =
@@ -193,7 +167,7 @@ module _ (N : Net) (W : PlanWords N) where
         are_alike [] a =
             let (m, e, f) = root_method tree t.grown t.root t.no_leaves in
             let (n, g, h) = root_method other o.grown o.root o.no_leaves in
-            record { one = used m; two = used n; is_one = e; is_two = g; alike = told.root m n (ground_at tree t.grown [] m e) (ground_at other o.grown [] n g) f h; ids = λ i c x. absurd (no_root tree node t i c x) }
+            record { one = used m; two = used n; is_one = e; is_two = g; alike = told.root m n (ground_at N tree t.grown [] m e) (ground_at N other o.grown [] n g) f h; ids = λ i c x. absurd (no_root tree node t i c x) }
         are_alike (k ∷ q) a = child k q a (are_alike q (parent_address N tree k q a))
           where
             child : (k : ℕ) (q : Address) → IsAddress N tree (k ∷ q) → AreAlike q → AreAlike (k ∷ q)
@@ -202,8 +176,8 @@ module _ (N : Net) (W : PlanWords N) where
                 let same : x.one ≡ used m = (let y = x.is_one in cc) in
                 let (n, f, g) = told_used m x.two (subst (λ z. Told z x.two) same x.alike) in
                 let h : label_at N other q ≡ Some (used n) = x.is_two ∙ ap Some f in
-                let (u, b, c) = tree_there tree (k ∷ q) a in
-                let w = its_work tree t.grown k q m e u b in
+                let (u, b, c) = tree_there N tree (k ∷ q) a in
+                let w = its_work N tree t.grown k q m e u b in
                 go m n e h g x u w c (W.is_check (work_of N u)) refl
               where
                 checked : (z : Option N.Work) → option_map W.is_check z ≡ Some true → (v : N.Work) × (z ≡ Some v) × (W.is_check v ≡ true)
@@ -225,7 +199,7 @@ module _ (N : Net) (W : PlanWords N) where
                     (to_numbers 0 (count N m) k (omega arith) (let l = slice_get_within (N.works m) k (work_of N u) w in omega arith))
                     (ap (is_shown N W) w ∙ ap not d))
                 go m n e h g x u w c true d =
-                    let (v, r, s) = checked (slice_get (N.works n) k) (sym (checks_at m n (ground_at tree t.grown q m e) (ground_at other o.grown q n h) g k) ∙ ap (option_map W.is_check) w ∙ ap Some d) in
+                    let (v, r, s) = checked (slice_get (N.works n) k) (sym (checks_at m n (ground_at N tree t.grown q m e) (ground_at N other o.grown q n h) g k) ∙ ap (option_map W.is_check) w ∙ ap Some d) in
                     let (y, z, j) = child_label N other o.grown q n k v h r in
                     let (one, is_one, one_check) = a_leaf tree t.no_leaves u c d in
                     let (two, is_two, two_check) = a_leaf other o.no_leaves y z (ap W.is_check j ∙ s) in
@@ -262,7 +236,7 @@ module _ (N : Net) (W : PlanWords N) where
         same_kind p (ran w) (used n) e f h = absurd h
         same_kind p (used m) (waits w) e f h = absurd h
         same_kind p (used m) (ran w) e f h = absurd h
-        same_kind p (used m) (used n) e f h = told.pairs m n (ground_at tree t.grown p m e) (ground_at other o.grown p n f) h
+        same_kind p (used m) (used n) e f h = told.pairs m n (ground_at N tree t.grown p m e) (ground_at N other o.grown p n f) h
 
         pub same_step_nodes : step_nodes N W node plan ≡ step_nodes N W another plan
         same_step_nodes = map_same node another (step_ids plan) (λ i c. sym (same_node i (Contains-append_left (step_ids plan) (map (λ l. l.id) plan.splits) i c) (address i c)))
