@@ -1,1 +1,1 @@
--- The proofs stand by module, in `latest`.
+-- The proofs stand by module, in `latest` and `ruled`.
