@@ -29,11 +29,11 @@ use Rattle.slot_machine.proofs.SpellingSteps.{slot_of, pending_grows, open_pendi
 use Rattle.slot_machine.proofs.Unused.{unused}
 
 -- the ways to the children of p, n of them from k on
-ways : ℕ → ℕ → Address → List Address
+pub ways : ℕ → ℕ → Address → List Address
 ways zero k p = []
 ways (suc n) k p = (k ∷ p) ∷ ways n (suc k) p
 
-length-ways : (n k : ℕ) (p : Address) → length (ways n k p) ≡ n
+pub length-ways : (n k : ℕ) (p : Address) → length (ways n k p) ≡ n
 unfolding ways
 length-ways zero k p = refl
 length-ways (suc n) k p = ap suc (length-ways n (suc k) p)
@@ -55,11 +55,11 @@ different_ways (suc n) k p = (λ c. (let (i, a, b, e) = ways_from n (suc k) p (k
 
 module _ (N : Net) (law : IsLawful N) (b : ℕ) (top : N.Work) where
   -- a list of all open leaves
-  record Listing (tree : Tree N) (leaves : List Address) : Type 0 where
-    lists : (p : Address) → Contains leaves p ↔ IsOpen N tree p
-    different : AreDifferent leaves
+  pub record Listing (tree : Tree N) (leaves : List Address) : Type 0 where
+    pub lists : (p : Address) → Contains leaves p ↔ IsOpen N tree p
+    pub different : AreDifferent leaves
 
-  listing_grows : (tree tree' : Tree N) (p : Address) (w : N.Work) (l : Label N) → IsGrowth N tree tree' p w l → (xs ys : List Address) → Listing tree (xs ++ p ∷ ys) → Listing tree' (ways (length (child_works N l)) 0 p ++ (xs ++ ys))
+  pub listing_grows : (tree tree' : Tree N) (p : Address) (w : N.Work) (l : Label N) → IsGrowth N tree tree' p w l → (xs ys : List Address) → Listing tree (xs ++ p ∷ ys) → Listing tree' (ways (length (child_works N l)) 0 p ++ (xs ++ ys))
   listing_grows tree tree' p w l g xs ys s = record { lists = λ q. (to q, from q (place N p q)); different = different_append new (xs ++ ys) (different_ways n 0 p) rest.0 apart }
     where
       n : ℕ
@@ -100,7 +100,7 @@ module _ (N : Net) (law : IsLawful N) (b : ℕ) (top : N.Work) where
       from q (inr (inr (x, y))) (v, f) = elim (without_cases xs p ys q ((s.lists q).1 (v, sym (g.others q x y) ∙ f))) [ inl e ↦ absurd (x (sym e)) | inr c ↦ Contains-append_right new (xs ++ ys) q c ]
 
   -- an entry for a step, where enough slots are free
-  some_act : (s : SlotState N) (tree : Tree N) (f : Address → ℕ) (p : Address) (leaves : List Address) (l : Label N) → Matches N b s tree f → Listing tree leaves → label_at N tree p ≡ Some (waits (work_at N l)) → IsUnblocked N s (f p) → IsLegal N l → IsTaken N l → length (child_works N l) + length leaves ≤ suc b → (e : Act N) × (label_of N e ≡ l) × (slot_of N e ≡ f p) × May N s e
+  pub some_act : (s : SlotState N) (tree : Tree N) (f : Address → ℕ) (p : Address) (leaves : List Address) (l : Label N) → Matches N b s tree f → Listing tree leaves → label_at N tree p ≡ Some (waits (work_at N l)) → IsUnblocked N s (f p) → IsLegal N l → IsTaken N l → length (child_works N l) + length leaves ≤ suc b → (e : Act N) × (label_of N e ≡ l) × (slot_of N e ≡ f p) × May N s e
   some_act s tree f p leaves (waits w) m ls was unblocked legal t h = absurd t
   some_act s tree f p leaves (ran w) m ls was unblocked legal t h = (run (f p) w, refl, refl, record { holds = (m.holds (f p) w).1 (p, was, refl); simple = legal; unblocked = unblocked })
   some_act s tree f p leaves (used n) m ls was unblocked legal t h = go (N.heir n) refl

@@ -1,0 +1,4 @@
+pub mod Calls
+pub mod Records
+pub mod ChosenValues
+pub mod Laws

@@ -1,0 +1,17 @@
+//! Laws of hierarchical plans of a compiled problem, each the contract of a function that does nothing.
+
+ghost use Rattle.plan_encoder.specs.Laws.{WordsTell, SolutionsExactlyWhereGaps, LatestIsSolution};
+
+use plan_model::Compiled;
+
+/// What the lines of a plan say of a method tells its pairs and its check.
+pub fn words_tell(compiled: &Compiled)
+    ensures { WordsTell compiled.now }
+{}
+
+/// A solution shows a plan exactly where the goal is true after its primitives and its tree has a gap function; the schedule of the
+/// latest one is such a solution.
+pub fn solutions_are_gaps(compiled: &Compiled)
+    ensures exactly { SolutionsExactlyWhereGaps compiled.now }
+    ensures latest { LatestIsSolution compiled.now }
+{}

@@ -1,0 +1,1 @@
+-- The proofs stand by module, in `latest` and `ruled`.

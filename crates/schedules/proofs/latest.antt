@@ -1,0 +1,31 @@
+-- Gap functions.
+pub mod Greater
+pub mod Counts
+pub mod Induced
+pub mod Search
+pub mod Lowering
+pub mod Ranks
+pub mod Placed
+pub mod Building
+pub mod OnlyOne
+pub mod OnePass
+pub mod GreatestGap
+pub mod Theorem
+-- States, and trees of one shape.
+pub mod Execution
+pub mod Shapes
+pub mod Relabelled
+pub mod Choices
+-- The queue.
+pub mod DirectPairs
+pub mod Queue
+-- Plans as lines.
+pub mod Rearranged
+pub mod Renumbered
+pub mod LinesOfTrees
+pub mod GrownTrees
+pub mod ShownTrees
+pub mod SameTrees
+pub mod ShownTheorem
+pub mod ShownSolutions
+pub mod examples

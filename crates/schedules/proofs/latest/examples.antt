@@ -1,0 +1,2 @@
+pub mod OneTask
+mod ShownOneTask

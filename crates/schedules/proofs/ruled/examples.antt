@@ -1,0 +1,2 @@
+mod FirstFree
+mod Everything

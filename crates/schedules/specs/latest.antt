@@ -1,0 +1,12 @@
+pub mod Gaps
+pub mod OnePass
+pub mod GreatestGap
+pub mod LatestSchedule
+pub mod Queue
+pub mod Execution
+pub mod Relabelled
+pub mod Choices
+pub mod Laws
+pub mod PlanLines
+pub mod Shown
+pub mod ShownLaws

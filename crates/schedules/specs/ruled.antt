@@ -1,0 +1,5 @@
+pub mod Narrowed
+pub mod Laws
+pub mod SlotRule
+pub mod LowestSlots
+pub mod FirstFreeLaws
