@@ -13,3 +13,4 @@ pub mod ShownPlan
 pub mod Printable
 pub mod ShownLaws
 pub mod Showing
+pub mod ShownSolutions
