@@ -30,13 +30,14 @@ use Rattle.schedules.proofs.latest.LinesOfTrees.{step_of}
 use Rattle.schedules.proofs.latest.ShownTrees.{from_step_nodes}
 use Rattle.schedules.specs.latest.PlanLines.{renamed_step}
 use Rattle.schedules.proofs.latest.Shapes.{same_gap_functions, shape_back, same_plan, address_back}
+use Rattle.schedules.proofs.latest.Execution.{labels_of}
 use Rattle.schedules.proofs.latest.ShownTheorem.{in_order, steps, shown_is_placed}
 use Rattle.schedules.proofs.latest.ShownSolutions.{solutions_that_show}
 use Rattle.schedules.proofs.latest.SameTrees.{same_step_nodes}
 use Rattle.schedules.proofs.latest.Theorem.{induces, placed}
 use Rattle.plan_encoder.specs.Calls.{is_check, words, lines_of}
 use Rattle.plan_encoder.specs.ChosenValues.{with_values, CanHave, method_with, work_with, chosen, is_checked_by, ParentCanHave, chooser, state_in, LabelMayStand, MayStand}
-use Rattle.plan_encoder.specs.Laws.{IsOf, IsTreeOfPlan, SomeSolutionShows, actions, MayStandSomehow, MayStandWith, GoalAfter, SolutionsExactlyWhereGaps, IsLatestSolution, LatestIsSolution}
+use Rattle.plan_encoder.specs.Laws.{IsOf, IsTreeOfPlan, SomeSolutionShows, actions, HasTree, MayStandSomehow, MayStandWith, GoalAfter, SolutionsExactlyWhereGaps, SolutionsExactlyWherePlaced, IsLatestSolution, LatestIsSolution}
 use Rattle.plan_encoder.proofs.ChosenTrees.{label_chosen, work_stays, tree_for_chosen}
 use Rattle.plan_encoder.proofs.Standing.{check_is_first, check_below, choice, each_can_have, each_allowed}
 use Rattle.plan_encoder.proofs.SameRecords.{alike, same_work, same_number, can_have}
@@ -355,3 +356,21 @@ solutions_exactly_where_gaps c h mode of plan tree node labels has = (
 pub latest_is_solution : (c : Compiled) → LatestIsSolution c
 latest_is_solution c h mode of plan tree node labels has goal gap values order latest stands s =
     latest_from h mode c of plan labels tree node has.of_plan has.are_labels goal gap values order latest stands s
+
+pub solutions_exactly_where_placed : (c : Compiled) → SolutionsExactlyWherePlaced c
+solutions_exactly_where_placed c h mode of plan = (to, from)
+  where
+    to : SomeSolutionShows c plan → (tree : Tree (network c)) × (node : ℕ → Address) × (labels : List (Label (network c))) × HasTree c plan tree node labels × GoalAfter c labels
+        × (gap : Address → ℕ) × IsGapFunction (network c) tree (actions c plan node) (MayStandSomehow c tree labels) gap
+    to (tree, order, s, shows) =
+        let (node, x, e) = (in_order (network c) (words c) (top_work c) tree order (lines_of plan) s.finished).0 shows in
+        let t : IsTreeOfPlan c plan tree node = record { grown = s.finished.front.grown; root = s.finished.front.root; no_leaves = s.finished.no_leaves; of_plan = x } in
+        let p = steps (network c) (words c) (top_work c) tree (lines_of plan) node t in
+        let (labels, are) = labels_of (network c) State (Allows c) (λ s l. s) tree [] (λ p l n e s. refl) (actions c plan node) (λ q d. (let y = p.leaves q d in (ran y.0, y.1))) in
+        let has : HasTree c plan tree node labels = record { of_plan = t; are_labels = are } in
+        let (goal, (gaps, g)) = (solutions_exactly_where_gaps c h mode of plan tree node labels has).0 (tree, order, s, shows) in
+        (tree, node, labels, has, goal, gaps, g)
+
+    from : (tree : Tree (network c)) × (node : ℕ → Address) × (labels : List (Label (network c))) × HasTree c plan tree node labels × GoalAfter c labels
+        × (gap : Address → ℕ) × IsGapFunction (network c) tree (actions c plan node) (MayStandSomehow c tree labels) gap → SomeSolutionShows c plan
+    from (tree, node, labels, has, goal, gaps, g) = (solutions_exactly_where_gaps c h mode of plan tree node labels has).1 (goal, (gaps, g))

@@ -1,6 +1,6 @@
 //! Laws of hierarchical plans of a compiled problem, each the contract of a function that does nothing.
 
-ghost use Rattle.plan_encoder.specs.Laws.{WordsTell, ShownAreLines, TreesExactlyWhereFitting, SolutionsExactlyWhereGaps, LatestIsSolution};
+ghost use Rattle.plan_encoder.specs.Laws.{WordsTell, ShownAreLines, TreesExactlyWhereFitting, SolutionsExactlyWhereGaps, SolutionsExactlyWherePlaced, LatestIsSolution};
 
 use plan_model::Compiled;
 
@@ -23,5 +23,6 @@ pub fn fitting_plans_have_trees(compiled: &Compiled)
 /// latest one is such a solution.
 pub fn solutions_are_gaps(compiled: &Compiled)
     ensures exactly { SolutionsExactlyWhereGaps compiled.now }
+    ensures placed { SolutionsExactlyWherePlaced compiled.now }
     ensures latest { LatestIsSolution compiled.now }
 {}
