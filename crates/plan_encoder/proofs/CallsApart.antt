@@ -1,9 +1,9 @@
 -- What the lines of a plan say tells what they are of: in a sound problem no two tasks, no two actions and no two objects have one word.
-use Rattle.std.proofs.Common.{ℕ, zero, suc, ◌≡◌, true, false, List, [], ◌∷◌, ◌++◌, map, length, Option, Some, None, option_map, slice_get, slice_index_or, refl, ap, sym, subst, ◌∙◌, arith}
-use Rattle.std.proofs.lemmas.Option.{slice_get-map, slice_get_within, slice_get_past}
+use Rattle.std.proofs.Common.{ℕ, zero, suc, ◌≡◌, false, List, [], ◌∷◌, ◌++◌, map, Option, Some, None, option_map, slice_get, refl, ap, sym, subst, ◌∙◌, arith}
+use Rattle.std.proofs.lemmas.Option.{slice_get-map, slice_get_past}
 use Rattle.htn_base.specs.declared.name.Name.{Name}
 use Rattle.htn_base.proofs.DifferentLemmas.{different-left, different-right}
-use Rattle.text_forms.specs.Words.{Word, word_at}
+use Rattle.text_forms.specs.Words.{Word}
 use Rattle.plan_texts.specs.Declared.{named}
 use Rattle.plan_texts.specs.Types.{EachIs}
 use Rattle.plan_texts.specs.Printable.{IsPlain}
@@ -72,7 +72,8 @@ module _ (c : Compiled) where
     pub named_in : (n : Name) → named c.hddl.names n ≡ named h.names n
     named_in n = ap (λ (z : Hddl). named z.names n) is.hddl
 
-    object_at : (x : ℕ) (o : Object) → slice_get c.hddl.objects x ≡ Some o → slice_get (map (λ (o : Object). named h.names o.name) h.objects) x ≡ Some (named h.names o.name)
+    object_at : (x : ℕ) (o : Object) → slice_get c.hddl.objects x ≡ Some o
+        → slice_get (map (λ (o : Object). named h.names o.name) h.objects) x ≡ Some (named h.names o.name)
     object_at x o e =
         slice_get-map (λ (o : Object). named h.names o.name) h.objects x
         ∙ ap (option_map (λ (o : Object). named h.names o.name)) (subst (λ (z : Hddl). slice_get z.objects x ≡ Some o) is.hddl e)
@@ -82,7 +83,8 @@ module _ (c : Compiled) where
         slice_get-map (λ (x : TaskSchema). named h.names x.name) h.tasks t
         ∙ ap (option_map (λ (x : TaskSchema). named h.names x.name)) (subst (λ (z : Hddl). slice_get z.tasks t ≡ Some s) is.hddl e)
 
-    action_at : (a : ℕ) (s : ActionSchema) → slice_get c.hddl.actions a ≡ Some s → slice_get (action_words h) a ≡ Some (named h.names s.name)
+    action_at : (a : ℕ) (s : ActionSchema) → slice_get c.hddl.actions a ≡ Some s
+        → slice_get (action_words h) a ≡ Some (named h.names s.name)
     action_at a s e =
         slice_get-map (λ (x : ActionSchema). named h.names x.name) h.actions a
         ∙ ap (option_map (λ (x : ActionSchema). named h.names x.name)) (subst (λ (z : Hddl). slice_get z.actions a ≡ Some s) is.hddl e)
@@ -98,7 +100,8 @@ module _ (c : Compiled) where
         (each_at IsPlain (task_words h) t (named h.names s.name) (each_left IsPlain (task_words h) (action_words h) sound.value.calls_named) (task_at t s e))
         (sym (named_in s.name) ∙ sym (ap (task_name_by c) e) ∙ i)
 
-    action_has_name : (a : ℕ) (s : ActionSchema) → slice_get c.hddl.actions a ≡ Some s → action_name_by c (slice_get c.hddl.actions a) ≡ [] → ⊥
+    action_has_name : (a : ℕ) (s : ActionSchema) → slice_get c.hddl.actions a ≡ Some s → action_name_by c (slice_get c.hddl.actions a) ≡ []
+        → ⊥
     action_has_name a s e i = not_empty (named h.names s.name)
         (each_at IsPlain (action_words h) a (named h.names s.name) (each_right IsPlain (task_words h) (action_words h) sound.value.calls_named) (action_at a s e))
         (sym (named_in s.name) ∙ sym (ap (action_name_by c) e) ∙ i)

@@ -1,5 +1,5 @@
 -- A tree whose methods have other values that they can have: it is grown, and it shows the same plans.
-use Rattle.std.proofs.Common.{ℕ, zero, suc, ◌≡◌, ◌+◌, ◌∙◌, true, false, List, [], ◌∷◌, map, slice_get, Option, Some, None, option_map, refl, ap, sym, subst, arith}
+use Rattle.std.proofs.Common.{ℕ, suc, ◌≡◌, ◌+◌, ◌∙◌, false, List, [], ◌∷◌, map, slice_get, Option, Some, None, option_map, refl, ap, sym, subst, arith}
 use Rattle.plan_texts.specs.SoundProblem.{IsSoundProblem}
 use Rattle.plan_model.specs.declared.options.Checks.{Checks}
 use Rattle.plan_model.specs.declared.values.Hddl.{Hddl}
@@ -11,7 +11,7 @@ use Rattle.plan_model.specs.plan_meaning.Network.{Work, action, check, task, Gro
 use Rattle.plan_model.specs.plan_meaning.Solution.{top_work}
 use Rattle.plan_model.proofs.task_networks.Nodes.{child_below}
 use Rattle.hplan_text.specs.ShownPlan.{method_name_by}
-use Rattle.schedules.specs.latest.PlanLines.{SplitLine, PlanLines}
+use Rattle.schedules.specs.latest.PlanLines.{PlanLines}
 use Rattle.schedules.specs.latest.Relabelled.{relabelled, all_relabelled, new_label}
 use Rattle.schedules.specs.latest.Shown.{PlanWords, shown_children, children_of_label, step_of_label, split_of_label, children_shown, step_line, split_line, IsTreeOf, IsTreeFor}
 use Rattle.schedules.proofs.latest.GrownTrees.{ground_at}
@@ -50,13 +50,15 @@ module _ (c : Compiled) where
     new p t = relabelled N (work_with values) (method_with values) p t
 
     -- the labels of the new tree
-    pub label_chosen : (p : Address) → label_at N (chosen c tree values) p ≡ option_map (new_label N (work_with values) (method_with values) p) (label_at N tree p)
+    pub label_chosen : (p : Address)
+        → label_at N (chosen c tree values) p ≡ option_map (new_label N (work_with values) (method_with values) p) (label_at N tree p)
     label_chosen p = label_at_new N (work_with values) (method_with values) tree p
 
     pub no_leaves_chosen : ((p : Address) → IsOpen N tree p → ⊥) → (p : Address) → IsOpen N (chosen c tree values) p → ⊥
     no_leaves_chosen n p (w, e) = go (label_at N tree p) refl (sym (label_chosen p) ∙ e)
       where
-        go : (o : Option (Label N)) → label_at N tree p ≡ o → option_map (new_label N (work_with values) (method_with values) p) o ≡ Some (waits w) → ⊥
+        go : (o : Option (Label N)) → label_at N tree p ≡ o
+            → option_map (new_label N (work_with values) (method_with values) p) o ≡ Some (waits w) → ⊥
         go None f g = cc
         go (Some (waits v)) f g = n p (v, f)
         go (Some (ran v)) f g = cc
@@ -106,7 +108,8 @@ module _ (c : Compiled) where
       step_line_chosen : (p : Address) → step_line N W (chosen c tree values) p ≡ step_line N W tree p
       step_line_chosen p = ap (λ o. step_of_label N W o p) (label_chosen p) ∙ go p (label_at N tree p)
         where
-          go : (p : Address) (o : Option (Label N)) → step_of_label N W (option_map (new_label N (work_with values) (method_with values) p) o) p ≡ step_of_label N W o p
+          go : (p : Address) (o : Option (Label N))
+              → step_of_label N W (option_map (new_label N (work_with values) (method_with values) p) o) p ≡ step_of_label N W o p
           go p None = refl
           go p (Some (waits w)) = refl
           go p (Some (used m)) = refl
@@ -116,7 +119,8 @@ module _ (c : Compiled) where
           go (i ∷ q) (Some (ran (task t args))) = refl
 
       module _ (h : Hddl) (mode : Checks) (sound : IsSoundProblem h) (is : IsCompiled h mode c) (grown : IsGrown N tree) where
-        shown_chosen : (q : Address) (g : GroundMethod) → label_at N tree q ≡ Some (used g) → shown_children N W (with_values g (values q)) ≡ shown_children N W g
+        shown_chosen : (q : Address) (g : GroundMethod) → label_at N tree q ≡ Some (used g)
+            → shown_children N W (with_values g (values q)) ≡ shown_children N W g
         shown_chosen q g e =
             let x = have q g e in
             same_children N W (top_work c) (words_tell c h mode sound is) (with_values g (values q)) g x.ground (ground_at N tree grown q g e) (same_split g (values q) x)

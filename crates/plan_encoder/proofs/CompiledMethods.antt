@@ -1,16 +1,12 @@
 -- The methods of a problem that is compiled of a sound one, by their numbers: their tasks, and where their checks stand.
-use Rattle.std.proofs.Common.{ℕ, zero, suc, ◌≡◌, ◌<◌, inl, inr, Bool, true, false, List, [], ◌∷◌, map, length, Option, Some, None, option_map, slice_get, refl, ap, sym, subst, ◌∙◌, Contains, arith}
+use Rattle.std.proofs.Common.{ℕ, zero, suc, ◌≡◌, Bool, true, false, List, [], ◌∷◌, map, length, Option, Some, None, slice_get, refl, ap, sym, subst, ◌∙◌, arith}
 use Rattle.std.specs.Option.{option_map_or}
-use Rattle.std.proofs.lemmas.Option.{slice_get-map, slice_get_within}
-use Rattle.plan_texts.specs.Types.{EachIs}
+use Rattle.std.proofs.lemmas.Option.{slice_get_within}
 use Rattle.plan_texts.specs.SoundValue.{IsSoundHead, IsSoundChild, IsSoundMethod, scope_of}
 use Rattle.plan_texts.specs.SoundProblem.{IsSoundProblem}
 use Rattle.plan_model.specs.declared.options.Checks.{Checks}
 use Rattle.plan_model.specs.declared.options.Checks.TheVariants.{Leaf, AtOnce}
-use Rattle.plan_model.specs.declared.terms.Term.{Term}
-use Rattle.plan_model.specs.declared.terms.Term.TheVariants.{Var, Obj}
-use Rattle.plan_model.specs.declared.networks.Head.{Head}
-use Rattle.plan_model.specs.declared.networks.Head.TheVariants.{Task, Action, Check}
+use Rattle.plan_model.specs.declared.networks.Head.TheVariants.{Task, Check}
 use Rattle.plan_model.specs.declared.networks.Child.{Child}
 use Rattle.plan_model.specs.declared.schemas.TaskSchema.{TaskSchema}
 use Rattle.plan_model.specs.declared.schemas.MethodSchema.{MethodSchema}
@@ -18,11 +14,11 @@ use Rattle.plan_model.specs.declared.schemas.MethodPlan.{MethodPlan}
 use Rattle.plan_model.specs.declared.values.Hddl.{Hddl}
 use Rattle.plan_model.specs.declared.values.Compiled.{Compiled}
 use Rattle.plan_model.specs.plan_meaning.Compilation.{children, check_child, IsMethodPlan, AreMethodPlans, IsCompiled}
-use Rattle.plan_model.specs.plan_meaning.Truth.{value_of, values_of, AreTyped}
-use Rattle.plan_model.specs.plan_meaning.Network.{Work, action, check, task, GroundMethod, InTypeOf, network, child_of, decomposed, subtasks_of, ground_work, IsGroundMethod, top_task}
+use Rattle.plan_model.specs.plan_meaning.Truth.{values_of}
+use Rattle.plan_model.specs.plan_meaning.Network.{Work, action, check, task, GroundMethod, network, child_of, decomposed, subtasks_of, top_task}
 use Rattle.plan_model.specs.plan_meaning.Solution.{top_work}
 use Rattle.plan_encoder.specs.Calls.{is_check}
-use Rattle.plan_encoder.proofs.CallsApart.{each_at, IsThere, AreThere, IsKnown, typed_there}
+use Rattle.plan_encoder.proofs.CallsApart.{each_at}
 
 -- the plan at a place is that of the method there
 plan_at : (h : Hddl) (mode : Checks) (ss : List MethodSchema) (ps : List MethodPlan) (k : ℕ) (p : MethodPlan) → AreMethodPlans h mode ss ps
@@ -38,7 +34,8 @@ module _ (c : Compiled) where
   pub head_is : (g : GroundMethod) (p : MethodPlan) → slice_get c.methods g.number ≡ Some p → (network c).head g ≡ decomposed g p
   head_is g p e = ap (λ o. option_map_or (decomposed g) o (task 0 [])) e
 
-  pub works_are : (g : GroundMethod) (p : MethodPlan) → slice_get c.methods g.number ≡ Some p → (network c).works g ≡ map (child_of g) p.schema.children
+  pub works_are : (g : GroundMethod) (p : MethodPlan) → slice_get c.methods g.number ≡ Some p
+      → (network c).works g ≡ map (child_of g) p.schema.children
   works_are g p e = ap (λ o. option_map_or (subtasks_of g) o []) e
 
   pub head_no_check : (g : GroundMethod) → is_check ((network c).head g) ≡ false
@@ -49,7 +46,8 @@ module _ (c : Compiled) where
       go (Some p) = refl
 
   module _ (h : Hddl) (mode : Checks) (sound : IsSoundProblem h) (is : IsCompiled h mode c) where
-    pub written_at : (k : ℕ) (p : MethodPlan) → slice_get c.methods k ≡ Some p → (s : MethodSchema) × (slice_get (h.top ∷ h.methods) k ≡ Some s) × IsMethodPlan h mode s p
+    pub written_at : (k : ℕ) (p : MethodPlan) → slice_get c.methods k ≡ Some p
+        → (s : MethodSchema) × (slice_get (h.top ∷ h.methods) k ≡ Some s) × IsMethodPlan h mode s p
     written_at k p e = plan_at h mode (h.top ∷ h.methods) c.methods k p is.methods e
 
     pub sound_at : (k : ℕ) (s : MethodSchema) → slice_get (h.top ∷ h.methods) k ≡ Some s → IsSoundMethod h s
@@ -68,7 +66,8 @@ module _ (c : Compiled) where
           ap (λ (z : MethodSchema). z.task_args) plan.schema ∙ ap (λ (z : MethodSchema). z.task_args) (sym f) ∙ sound.value.top_args,
         )
 
-    pub other_method : (k : ℕ) (p : MethodPlan) → slice_get c.methods (suc k) ≡ Some p → (r : TaskSchema) × (slice_get c.hddl.tasks p.schema.task ≡ Some r)
+    pub other_method : (k : ℕ) (p : MethodPlan) → slice_get c.methods (suc k) ≡ Some p
+        → (r : TaskSchema) × (slice_get c.hddl.tasks p.schema.task ≡ Some r)
     other_method k p e =
         let (s, on, plan) = written_at (suc k) p e in
         let (r, there, many) = each_at (λ (s : MethodSchema). IsSoundHead h (Task s.task) (length s.task_args)) h.methods k s sound.value.method_tasks on in
@@ -76,7 +75,8 @@ module _ (c : Compiled) where
         (r, ap (slice_get c.hddl.tasks) same ∙ subst (λ (z : Hddl). slice_get z.tasks s.task ≡ Some r) (sym is.hddl) there)
 
     -- so the methods of the top task have number 0
-    pub top_number : (g : GroundMethod) (p : MethodPlan) → slice_get c.methods g.number ≡ Some p → (network c).head g ≡ top_work c → g.number ≡ 0
+    pub top_number : (g : GroundMethod) (p : MethodPlan) → slice_get c.methods g.number ≡ Some p → (network c).head g ≡ top_work c
+        → g.number ≡ 0
     top_number g p e f = go g.number e (let x : task p.schema.task (values_of g.values p.schema.task_args) ≡ task (top_task c) [] = sym (head_is g p e) ∙ f in ap number_of x)
       where
         number_of : Work → ℕ
@@ -89,13 +89,15 @@ module _ (c : Compiled) where
         go (suc k) e f = let (r, there) = other_method k p e in let l = slice_get_within c.hddl.tasks p.schema.task r there in absurd (omega arith)
 
     -- subtasks are no checks
-    no_check : (s : MethodSchema) → IsSoundMethod h s → (j : ℕ) (child : Child) → slice_get s.children j ≡ Some child → child.head ≡ Check → ⊥
+    no_check : (s : MethodSchema) → IsSoundMethod h s → (j : ℕ) (child : Child) → slice_get s.children j ≡ Some child → child.head ≡ Check
+        → ⊥
     no_check s m j child at e =
         let x = (each_at (IsSoundChild h (scope_of h s.params)) s.children j child m.children at).0 in
         subst (λ z. IsSoundHead h z (length child.args)) e x
 
     -- a check is the first child of a checked method
-    pub check_first : (k : ℕ) (p : MethodPlan) → slice_get c.methods k ≡ Some p → (j : ℕ) (child : Child) → slice_get p.schema.children j ≡ Some child
+    pub check_first : (k : ℕ) (p : MethodPlan) → slice_get c.methods k ≡ Some p → (j : ℕ) (child : Child)
+        → slice_get p.schema.children j ≡ Some child
         → child.head ≡ Check → (j ≡ 0) × (p.checked ≡ true)
     check_first k p e j child at check_head =
         let (s, on, plan) = written_at k p e in
@@ -103,7 +105,8 @@ module _ (c : Compiled) where
         let same : p.schema.children ≡ children p.checked s = ap (λ (z : MethodSchema). z.children) plan.schema in
         go s m p.checked refl j (subst (λ z. slice_get z j ≡ Some child) same at)
       where
-        go : (s : MethodSchema) → IsSoundMethod h s → (b : Bool) → p.checked ≡ b → (j : ℕ) → slice_get (children b s) j ≡ Some child → (j ≡ 0) × (p.checked ≡ true)
+        go : (s : MethodSchema) → IsSoundMethod h s → (b : Bool) → p.checked ≡ b → (j : ℕ) → slice_get (children b s) j ≡ Some child
+            → (j ≡ 0) × (p.checked ≡ true)
         go s m true f zero at = (refl, f)
         go s m true f (suc j) at = absurd (no_check s m j child at check_head)
         go s m false f j at = absurd (no_check s m j child at check_head)

@@ -5,3 +5,6 @@ pub mod ChosenTrees
 pub mod Standing
 pub mod SameRecords
 pub mod Solutions
+pub mod ShownLines
+pub mod ListedOnce
+pub mod PlanTrees

@@ -1,5 +1,5 @@
 -- Two trees of one plan: their works are the same, but for the values of methods, and each method can have the values of the other.
-use Rattle.std.proofs.Common.{ℕ, zero, suc, ◌≡◌, ◌∙◌, Bool, true, false, List, [], ◌∷◌, map, slice_get, Option, Some, None, option_map, refl, ap, sym, subst}
+use Rattle.std.proofs.Common.{ℕ, ◌≡◌, ◌∙◌, false, List, [], ◌∷◌, map, slice_get, Option, Some, None, option_map, refl, ap, sym, subst}
 use Rattle.std.specs.Option.{option_map_or}
 use Rattle.std.proofs.lemmas.Option.{slice_get-map}
 use Rattle.plan_texts.specs.SoundProblem.{IsSoundProblem}
@@ -11,7 +11,7 @@ use Rattle.plan_model.specs.declared.schemas.MethodPlan.{MethodPlan}
 use Rattle.plan_model.specs.declared.values.Hddl.{Hddl}
 use Rattle.plan_model.specs.declared.values.Compiled.{Compiled}
 use Rattle.plan_model.specs.task_networks.Net.{Net}
-use Rattle.plan_model.specs.task_networks.Tree.{Tree, open_leaf, done, split, Label, waits, ran, used, Address, label, label_at, work_of, IsAddress}
+use Rattle.plan_model.specs.task_networks.Tree.{Tree, open_leaf, done, split, Label, waits, ran, used, Address, label, label_at, work_of}
 use Rattle.plan_model.specs.plan_meaning.Compilation.{IsCompiled}
 use Rattle.plan_model.specs.plan_meaning.Network.{Work, action, check, task, GroundMethod, IsPrimitive, network, child_of, ground_work, IsGroundMethod, decomposed}
 use Rattle.plan_model.specs.plan_meaning.Truth.{values_of}
@@ -19,14 +19,14 @@ use Rattle.plan_model.specs.plan_meaning.Solution.{top_work}
 use Rattle.plan_model.proofs.task_networks.Parents.{parent_label, child_label}
 use Rattle.tree_core.proofs.Gets.{at_place, get-map, mapped, same_gets}
 use Rattle.schedules.specs.latest.PlanLines.{PlanLines}
-use Rattle.schedules.specs.latest.Shown.{PlanWords, SaysTheSame, IsTreeFor}
+use Rattle.schedules.specs.latest.Shown.{SaysTheSame, IsTreeFor}
 use Rattle.schedules.specs.latest.ShownLaws.{AreToldAlike}
 use Rattle.schedules.proofs.latest.GrownTrees.{tree_there, ground_at, simple_at, its_work}
 use Rattle.schedules.proofs.latest.ShownTheorem.{alike_trees}
 use Rattle.plan_encoder.specs.Calls.{Call, Decomposed, is_check, call, words}
 use Rattle.plan_encoder.specs.ChosenValues.{with_values, rechecked, CanHave}
 use Rattle.plan_encoder.proofs.CallsApart.{IsKnown, declared_is_known, same_action, same_task}
-use Rattle.plan_encoder.proofs.CompiledMethods.{head_is, works_are, head_no_check}
+use Rattle.plan_encoder.proofs.CompiledMethods.{works_are, head_no_check}
 use Rattle.plan_encoder.proofs.Telling.{number_told, words_tell}
 
 module _ (c : Compiled) where
@@ -45,7 +45,7 @@ module _ (c : Compiled) where
   label_of_tree (split g ts) = refl
 
   -- a method decomposes a task
-  head_task : (g : GroundMethod) → (t : ℕ) × (v : List ℕ) × (N.head g ≡ task t v)
+  pub head_task : (g : GroundMethod) → (t : ℕ) × (v : List ℕ) × (N.head g ≡ task t v)
   head_task g = go (slice_get c.methods g.number)
     where
       go : (o : Option MethodPlan) → (t : ℕ) × (v : List ℕ) × (option_map_or (decomposed g) o (task 0 []) ≡ task t v)
@@ -54,7 +54,8 @@ module _ (c : Compiled) where
 
   module _ (h : Hddl) (mode : Checks) (sound : IsSoundProblem h) (is : IsCompiled h mode c) where
     -- two works of one kind of which the same is said
-    same_call : (w v : Work) → is_check v ≡ false → IsKnown c w → call c w ≡ call c v → (IsPrimitive w → IsPrimitive v) → (IsPrimitive v → IsPrimitive w) → w ≡ v
+    same_call : (w v : Work) → is_check v ≡ false → IsKnown c w → call c w ≡ call c v → (IsPrimitive w → IsPrimitive v)
+        → (IsPrimitive v → IsPrimitive w) → w ≡ v
     same_call (check m old) v n k e to from = absurd k
     same_call (action a v) (check m old) n k e to from = absurd cc
     same_call (task t v) (check m old) n k e to from = absurd cc
@@ -69,7 +70,8 @@ module _ (c : Compiled) where
       alike = alike_trees N (words c) (top_work c) (words_tell c h mode sound is) plan tree other node another t o
 
       -- a child that is no check is an action or a task of the problem
-      child_known : (j : ℕ) (q : Address) (k : Label N) → label_at N tree (j ∷ q) ≡ Some k → is_check (label_work k) ≡ false → IsKnown c (label_work k)
+      child_known : (j : ℕ) (q : Address) (k : Label N) → label_at N tree (j ∷ q) ≡ Some k → is_check (label_work k) ≡ false
+          → IsKnown c (label_work k)
       child_known j q k e n =
           let (g, up) = parent_label N tree j q (k, e) in
           let (u, there, lab) = tree_there N tree (j ∷ q) (k, e) in
@@ -105,10 +107,12 @@ module _ (c : Compiled) where
       root_head u r g e = sym (ap label_work (let f : label N u ≡ used g = cc in f)) ∙ label_of_tree u ∙ r
 
       -- methods at one node have one number, and each can have the other's values
-      pub same_number : (q : Address) (g k : GroundMethod) → label_at N tree q ≡ Some (used g) → label_at N other q ≡ Some (used k) → k.number ≡ g.number
+      pub same_number : (q : Address) (g k : GroundMethod) → label_at N tree q ≡ Some (used g) → label_at N other q ≡ Some (used k)
+          → k.number ≡ g.number
       same_number q g k e f = sym (number_told c h mode sound is g k (ground_at N tree t.grown q g e) (ground_at N other o.grown q k f) (alike.said q (used g) (used k) e f))
 
-      pub can_have : (q : Address) (g k : GroundMethod) → label_at N tree q ≡ Some (used g) → label_at N other q ≡ Some (used k) → CanHave c g k.values
+      pub can_have : (q : Address) (g k : GroundMethod) → label_at N tree q ≡ Some (used g) → label_at N other q ≡ Some (used k)
+          → CanHave c g k.values
       can_have q g k e f = record { ground = subst (IsGroundMethod c) renumbered ground; head = ap N.head (sym renumbered) ∙ heads q e f; children = children }
         where
           renumbered : k ≡ with_values g k.values
@@ -125,7 +129,8 @@ module _ (c : Compiled) where
           plan_g = ground_at N tree t.grown q g e
 
           -- one child
-          child_same : (j : ℕ) (x : Child) → slice_get plan_g.plan.schema.children j ≡ Some x → child_of (with_values g k.values) x ≡ rechecked k.values (child_of g x)
+          child_same : (j : ℕ) (x : Child) → slice_get plan_g.plan.schema.children j ≡ Some x
+              → child_of (with_values g k.values) x ≡ rechecked k.values (child_of g x)
           child_same j x at = go x.head refl
             where
               in_tree : slice_get (N.works g) j ≡ Some (child_of g x)

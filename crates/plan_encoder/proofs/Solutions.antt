@@ -1,5 +1,5 @@
 -- A solution shows a plan exactly where the plan's tree has a gap function with some values for each method.
-use Rattle.std.proofs.Common.{ℕ, ◌≡◌, ◌⊎◌, inl, inr, ◌∙◌, Bool, true, false, IsTrue, List, [], ◌∷◌, map, take, filter, slice_get, Option, Some, None, option_map, MatchOption, refl, ap, sym, subst, Contains}
+use Rattle.std.proofs.Common.{ℕ, ◌≡◌, ◌⊎◌, inr, ◌∙◌, true, false, List, [], ◌∷◌, slice_get, Option, Some, None, option_map, MatchOption, refl, ap, sym, subst, Contains}
 use Rattle.plan_model.specs.declared.options.Checks.{Checks}
 use Rattle.plan_model.specs.declared.schemas.MethodPlan.{MethodPlan}
 use Rattle.plan_model.specs.declared.values.Hddl.{Hddl}
@@ -7,9 +7,8 @@ use Rattle.plan_model.specs.declared.values.Compiled.{Compiled}
 use Rattle.plan_model.specs.Pairs.{Pairs}
 use Rattle.plan_model.specs.task_networks.Order.{Precedes, direct, through}
 use Rattle.plan_model.specs.task_networks.Net.{Net}
-use Rattle.plan_model.specs.task_networks.Tree.{Tree, open_leaf, done, split, Label, waits, ran, used, Address, label_at, work_of, IsAddress, IsOpen}
-use Rattle.plan_model.specs.task_networks.Front.{IsFinished}
-use Rattle.plan_model.specs.task_networks.Executable.{AreLabels, last_state}
+use Rattle.plan_model.specs.task_networks.Tree.{Tree, open_leaf, done, split, Label, waits, ran, used, Address, label_at, work_of, IsAddress}
+use Rattle.plan_model.specs.task_networks.Executable.{AreLabels}
 use Rattle.plan_model.specs.plan_meaning.Truth.{State}
 use Rattle.plan_model.specs.plan_meaning.Network.{Work, action, check, task, GroundMethod, network}
 use Rattle.plan_model.specs.plan_meaning.Solution.{top_work, Allows, next, initial, IsGoal, IsSolution}
@@ -24,20 +23,21 @@ use Rattle.schedules.specs.latest.Relabelled.{new_label}
 use Rattle.schedules.specs.latest.Choices.{IsChoice}
 use Rattle.schedules.proofs.latest.GrownTrees.{simple_at}
 use Rattle.schedules.specs.latest.Execution.{AllowedAt}
-use Rattle.schedules.specs.latest.Shown.{PlanWords, AreTelling, SaysTheSame, Shows, IsTreeOf, IsTreeFor, step_nodes}
+use Rattle.schedules.specs.latest.Shown.{PlanWords, AreTelling, SaysTheSame, Shows}
 use Rattle.schedules.specs.latest.ShownLaws.{IsShown}
 use Rattle.schedules.proofs.latest.Choices.{some_gaps, placed_exactly_where_gaps}
 use Rattle.schedules.proofs.latest.LinesOfTrees.{step_of}
 use Rattle.schedules.proofs.latest.ShownTrees.{from_step_nodes}
 use Rattle.schedules.specs.latest.PlanLines.{renamed_step}
 use Rattle.schedules.proofs.latest.Shapes.{same_gap_functions, shape_back, same_plan, address_back}
+use Rattle.schedules.proofs.latest.Execution.{labels_of}
 use Rattle.schedules.proofs.latest.ShownTheorem.{in_order, steps, shown_is_placed}
 use Rattle.schedules.proofs.latest.ShownSolutions.{solutions_that_show}
 use Rattle.schedules.proofs.latest.SameTrees.{same_step_nodes}
 use Rattle.schedules.proofs.latest.Theorem.{induces, placed}
-use Rattle.plan_encoder.specs.Calls.{Call, Decomposed, is_check, call, words, lines_of, ShowsUnderSomeIds}
-use Rattle.plan_encoder.specs.ChosenValues.{with_values, CanHave, method_with, work_with, chosen, is_checked_by, is_checked, ParentCanHave, chooser, state_in, LabelMayStand, MayStand}
-use Rattle.plan_encoder.specs.Laws.{IsOf, IsTreeOfPlan, SomeSolutionShows, actions, HasTree, MayStandSomehow, MayStandWith, GoalAfter, SolutionsExactlyWhereGaps, IsLatestSolution, LatestIsSolution}
+use Rattle.plan_encoder.specs.Calls.{is_check, words, lines_of}
+use Rattle.plan_encoder.specs.ChosenValues.{with_values, CanHave, method_with, work_with, chosen, is_checked_by, ParentCanHave, chooser, state_in, LabelMayStand, MayStand}
+use Rattle.plan_encoder.specs.Laws.{IsOf, IsTreeOfPlan, SomeSolutionShows, actions, HasTree, MayStandSomehow, MayStandWith, GoalAfter, SolutionsExactlyWhereGaps, SolutionsExactlyWherePlaced, IsLatestSolution, LatestIsSolution}
 use Rattle.plan_encoder.proofs.ChosenTrees.{label_chosen, work_stays, tree_for_chosen}
 use Rattle.plan_encoder.proofs.Standing.{check_is_first, check_below, choice, each_can_have, each_allowed}
 use Rattle.plan_encoder.proofs.SameRecords.{alike, same_work, same_number, can_have}
@@ -48,7 +48,8 @@ pub order_decided : (h : Hddl) (mode : Checks) (c : Compiled) → IsOf h mode c 
 order_decided h mode c of = record { acyclic = (prepared h mode c of.ordered of.compiled).acyclic; precedes = λ g i j. decided (slice_get c.methods g.number) i j }
   where
     decided : (o : Option MethodPlan) (i j : ℕ)
-        → Precedes (λ i j. MatchOption o ⊥ (λ plan. Pairs plan.schema.pairs i j)) i j ⊎ (Precedes (λ i j. MatchOption o ⊥ (λ plan. Pairs plan.schema.pairs i j)) i j → ⊥)
+        → Precedes (λ i j. MatchOption o ⊥ (λ plan. Pairs plan.schema.pairs i j)) i j
+        ⊎ (Precedes (λ i j. MatchOption o ⊥ (λ plan. Pairs plan.schema.pairs i j)) i j → ⊥)
     decided None i j = inr (none i j)
       where
         none : (i j : ℕ) → Precedes (λ i j. MatchOption None ⊥ (λ (plan : MethodPlan). Pairs plan.schema.pairs i j)) i j → ⊥
@@ -76,16 +77,19 @@ module _ (h : Hddl) (mode : Checks) (c : Compiled) (of : IsOf h mode c) where
 
   module _ (plan : HPlan) (labels : List (Label N)) where
     -- the solutions on one tree of the plan
-    solutions_on : (tree : Tree N) (node : ℕ → Address) → IsTreeOfPlan c plan tree node → AreLabels N tree (actions c plan node) labels → (order : List Address)
+    solutions_on : (tree : Tree N) (node : ℕ → Address) → IsTreeOfPlan c plan tree node → AreLabels N tree (actions c plan node) labels
+        → (order : List Address)
         → (IsSolution c tree order × Shows N W tree (lines_of plan) order
-        → IsShown N W top (AllowedAt N State (Allows c) (next c) (initial c) tree labels) (lines_of plan) tree node order × GoalAfter c labels)
+        → IsShown N W top (AllowedAt N State (Allows c) (next c) (initial c) tree labels) (lines_of plan) tree node order
+        × GoalAfter c labels)
         × (IsShown N W top (AllowedAt N State (Allows c) (next c) (initial c) tree labels) (lines_of plan) tree node order × GoalAfter c labels
         → IsSolution c tree order × Shows N W tree (lines_of plan) order)
     solutions_on tree node t are order =
         let x = solutions_that_show N W top told State (Allows c) (next c) check_keeps (λ m s. refl) (lines_of plan) tree node t (initial c) (IsGoal c) labels are order in
         (x.0, x.1)
 
-    module _ (tree : Tree N) (node : ℕ → Address) (t : IsTreeOfPlan c plan tree node) (are : AreLabels N tree (actions c plan node) labels) where
+    module _ (tree : Tree N) (node : ℕ → Address) (t : IsTreeOfPlan c plan tree node)
+        (are : AreLabels N tree (actions c plan node) labels) where
       abbrev acts : List Address
       acts = actions c plan node
 
@@ -93,7 +97,8 @@ module _ (h : Hddl) (mode : Checks) (c : Compiled) (of : IsOf h mode c) where
       a_plan = steps N W top tree (lines_of plan) node t
 
       -- a tree with chosen values, where each node stands in its gap
-      module _ (values : Address → List ℕ) (gap : Address → ℕ) (stands : (p : Address) → IsAddress N tree p → MayStandWith c tree labels values p (gap p)) where
+      module _ (values : Address → List ℕ) (gap : Address → ℕ)
+          (stands : (p : Address) → IsAddress N tree p → MayStandWith c tree labels values p (gap p)) where
         have : (q : Address) (g : GroundMethod) → label_at N tree q ≡ Some (used g) → CanHave c g (values q)
         have = each_can_have c h mode of.sound of.compiled tree t.grown t.no_leaves t.root labels values gap stands
 
@@ -110,7 +115,8 @@ module _ (h : Hddl) (mode : Checks) (c : Compiled) (of : IsOf h mode c) where
             one : (p : Address) (l : Label N) → label_at N tree p ≡ Some l → Contains acts p → Stay p l
             one p l e d = label_chosen c tree values p ∙ ap (option_map (new_label N (work_with values) (method_with values) p)) e ∙ ap Some (same p l e d)
               where
-                same : (p : Address) (l : Label N) → label_at N tree p ≡ Some l → Contains acts p → new_label N (work_with values) (method_with values) p l ≡ l
+                same : (p : Address) (l : Label N) → label_at N tree p ≡ Some l → Contains acts p
+                    → new_label N (work_with values) (method_with values) p l ≡ l
                 same p (waits w) e d = absurd (t.no_leaves p (w, e))
                 same p (used g) e d = absurd (let (w, f) = a_plan.leaves p d in cc)
                 same p (ran w) e d = ap ran (work_stays values p w (no_check p w e d))
@@ -123,7 +129,8 @@ module _ (h : Hddl) (mode : Checks) (c : Compiled) (of : IsOf h mode c) where
                         let same : v ≡ w = cc in
                         ap is_check (sym same) ∙ y
 
-            go : (ps : List Address) (ls : List (Label N)) → ((p : Address) → Contains ps p → Contains acts p) → AreLabels N tree ps ls → AreLabels N (chosen c tree values) ps ls
+            go : (ps : List Address) (ls : List (Label N)) → ((p : Address) → Contains ps p → Contains acts p) → AreLabels N tree ps ls
+                → AreLabels N (chosen c tree values) ps ls
             go [] [] f a = tt
             go [] (l ∷ ls) f a = a
             go (p ∷ ps) [] f a = a
@@ -171,7 +178,8 @@ module _ (h : Hddl) (mode : Checks) (c : Compiled) (of : IsOf h mode c) where
           (chosen c tree values, order, s.0, s.1)
 
       -- the schedule of the latest gap function is one
-      latest_from : GoalAfter c labels → (gap : Address → ℕ) (values : Address → List ℕ) (order : List Address) → IsLatest N tree acts Any gap
+      latest_from : GoalAfter c labels → (gap : Address → ℕ) (values : Address → List ℕ) (order : List Address)
+          → IsLatest N tree acts Any gap
           → ((p : Address) → IsAddress N tree p → With values p (gap p)) → IsScheduleOf N (chosen c tree values) acts gap order
           → IsLatestSolution c plan tree node labels gap values order
       latest_from goal gap values order latest stands s =
@@ -202,7 +210,8 @@ module _ (h : Hddl) (mode : Checks) (c : Compiled) (of : IsOf h mode c) where
             root_is (split m ts) w e = absurd cc
 
         -- the label of the other tree
-        other_label : (p : Address) (k : Label N) → label_at N tree p ≡ Some k → (l : Label N) × (label_at N other p ≡ Some l) × SaysTheSame N W k l
+        other_label : (p : Address) (k : Label N) → label_at N tree p ≡ Some k
+            → (l : Label N) × (label_at N other p ≡ Some l) × SaysTheSame N W k l
         other_label p k e =
             let a = alike c h mode of.sound of.compiled (lines_of plan) tree other node another t o in
             let (l, f, s) = a.shape.to p k e in
@@ -228,7 +237,8 @@ module _ (h : Hddl) (mode : Checks) (c : Compiled) (of : IsOf h mode c) where
             let same : w ≡ v = same_work c h mode of.sound of.compiled (lines_of plan) tree other node another t o j q (ran w) (ran v) e there n in
             there ∙ ap (λ z. Some (ran z)) (sym same)
 
-        action_of : (p : Address) (l : Label N) → label_at N tree p ≡ Some l → Contains acts p → (w : Work) × (l ≡ ran w) × (is_check w ≡ false)
+        action_of : (p : Address) (l : Label N) → label_at N tree p ≡ Some l → Contains acts p
+            → (w : Work) × (l ≡ ran w) × (is_check w ≡ false)
         action_of p l e d =
             let (k, f, g) = from_step_nodes N W tree (lines_of plan) node t.of_plan p d in
             let (v, x, y, z, u) = step_of N W (label_at N tree (node k.id)) (node k.id) (renamed_step node k) (t.of_plan.steps k f) in
@@ -241,7 +251,8 @@ module _ (h : Hddl) (mode : Checks) (c : Compiled) (of : IsOf h mode c) where
         other_labels : AreLabels N other (actions c plan another) labels
         other_labels = subst (λ z. AreLabels N other z labels) same_acts (go acts labels (λ p d. d) are)
           where
-            go : (ps : List Address) (ls : List (Label N)) → ((p : Address) → Contains ps p → Contains acts p) → AreLabels N tree ps ls → AreLabels N other ps ls
+            go : (ps : List Address) (ls : List (Label N)) → ((p : Address) → Contains ps p → Contains acts p) → AreLabels N tree ps ls
+                → AreLabels N other ps ls
             go [] [] f a = tt
             go [] (l ∷ ls) f a = a
             go (p ∷ ps) [] f a = a
@@ -276,10 +287,12 @@ module _ (h : Hddl) (mode : Checks) (c : Compiled) (of : IsOf h mode c) where
               allowed : (p : Address) (l : Label N) → label_at N other p ≡ Some l → Allows c (state_in c tree labels (gap p)) l
               allowed p l f = gaps.allowed p (l, f) l f
 
-              renumbered : (q : Address) (g k : GroundMethod) → label_at N tree q ≡ Some (used g) → label_at N other q ≡ Some (used k) → k ≡ with_values g k.values
+              renumbered : (q : Address) (g k : GroundMethod) → label_at N tree q ≡ Some (used g) → label_at N other q ≡ Some (used k)
+                  → k ≡ with_values g k.values
               renumbered q g k e f = λ i. record { number = (same_number c h mode of.sound of.compiled (lines_of plan) tree other node another t o q g k e f) i; values = k.values }
 
-              at_method : (q : Address) (g k : GroundMethod) → label_at N tree q ≡ Some (used g) → label_at N other q ≡ Some (used k) → Is q (used g)
+              at_method : (q : Address) (g k : GroundMethod) → label_at N tree q ≡ Some (used g) → label_at N other q ≡ Some (used k)
+                  → Is q (used g)
               at_method q g k e f = (
                 k.values,
                 inr (
@@ -307,13 +320,15 @@ module _ (h : Hddl) (mode : Checks) (c : Compiled) (of : IsOf h mode c) where
                     ),
                   )
                 where
-                  number_of : {m n : ℕ} {v w : List ℕ} → (let x : Option (Label N) = Some (ran (check m v)) in x) ≡ Some (ran (check n w)) → m ≡ n
+                  number_of : {m n : ℕ} {v w : List ℕ} → (let x : Option (Label N) = Some (ran (check m v)) in x) ≡ Some (ran (check n w))
+                      → m ≡ n
                   number_of e = cc
 
               back : (p : Address) (k : Label N) → label_at N tree p ≡ Some k → Is p k → Any p (gap p)
               back p k e (v, m) = (v, subst (λ z. LabelMayStand c tree labels p z v (gap p)) (sym e) m)
 
-              go : (p : Address) (k : Label N) → label_at N tree p ≡ Some k → (l : Label N) × (label_at N other p ≡ Some l) × SaysTheSame N W k l → Any p (gap p)
+              go : (p : Address) (k : Label N) → label_at N tree p ≡ Some k
+                  → (l : Label N) × (label_at N other p ≡ Some l) × SaysTheSame N W k l → Any p (gap p)
               go p (waits w) e x = absurd (t.no_leaves p (w, e))
               go p (ran (task u v)) e x = absurd (simple_at N tree t.grown p (task u v) e)
               go p (ran (action a v)) e x = back p (ran (action a v)) e ([], allowed p (ran (action a v)) (action_stays p (action a v) e refl))
@@ -341,3 +356,21 @@ solutions_exactly_where_gaps c h mode of plan tree node labels has = (
 pub latest_is_solution : (c : Compiled) → LatestIsSolution c
 latest_is_solution c h mode of plan tree node labels has goal gap values order latest stands s =
     latest_from h mode c of plan labels tree node has.of_plan has.are_labels goal gap values order latest stands s
+
+pub solutions_exactly_where_placed : (c : Compiled) → SolutionsExactlyWherePlaced c
+solutions_exactly_where_placed c h mode of plan = (to, from)
+  where
+    to : SomeSolutionShows c plan → (tree : Tree (network c)) × (node : ℕ → Address) × (labels : List (Label (network c))) × HasTree c plan tree node labels × GoalAfter c labels
+        × (gap : Address → ℕ) × IsGapFunction (network c) tree (actions c plan node) (MayStandSomehow c tree labels) gap
+    to (tree, order, s, shows) =
+        let (node, x, e) = (in_order (network c) (words c) (top_work c) tree order (lines_of plan) s.finished).0 shows in
+        let t : IsTreeOfPlan c plan tree node = record { grown = s.finished.front.grown; root = s.finished.front.root; no_leaves = s.finished.no_leaves; of_plan = x } in
+        let p = steps (network c) (words c) (top_work c) tree (lines_of plan) node t in
+        let (labels, are) = labels_of (network c) State (Allows c) (λ s l. s) tree [] (λ p l n e s. refl) (actions c plan node) (λ q d. (let y = p.leaves q d in (ran y.0, y.1))) in
+        let has : HasTree c plan tree node labels = record { of_plan = t; are_labels = are } in
+        let (goal, (gaps, g)) = (solutions_exactly_where_gaps c h mode of plan tree node labels has).0 (tree, order, s, shows) in
+        (tree, node, labels, has, goal, gaps, g)
+
+    from : (tree : Tree (network c)) × (node : ℕ → Address) × (labels : List (Label (network c))) × HasTree c plan tree node labels × GoalAfter c labels
+        × (gap : Address → ℕ) × IsGapFunction (network c) tree (actions c plan node) (MayStandSomehow c tree labels) gap → SomeSolutionShows c plan
+    from (tree, node, labels, has, goal, gaps, g) = (solutions_exactly_where_gaps c h mode of plan tree node labels has).1 (goal, (gaps, g))

@@ -1,18 +1,16 @@
 -- Where nodes may stand, with chosen values: one node asks for the values of a method, and what may stand there can be executed.
-use Rattle.std.proofs.Common.{ℕ, zero, suc, ◌≡◌, ◌⊎◌, inl, inr, ◌∙◌, Bool, true, false, IsTrue, List, [], ◌∷◌, map, cond, slice_get, Option, Some, None, option_map, refl, ap, sym, subst}
+use Rattle.std.proofs.Common.{ℕ, ◌≡◌, ◌⊎◌, inl, inr, ◌∙◌, Bool, true, false, List, [], ◌∷◌, map, cond, slice_get, Option, Some, None, option_map, refl, ap, sym, subst}
 use Rattle.plan_texts.specs.SoundProblem.{IsSoundProblem}
 use Rattle.plan_model.specs.declared.options.Checks.{Checks}
 use Rattle.plan_model.specs.declared.networks.Head.{Head}
 use Rattle.plan_model.specs.declared.networks.Head.TheVariants.{Task, Action, Check}
-use Rattle.plan_model.specs.declared.networks.Child.{Child}
-use Rattle.plan_model.specs.declared.schemas.MethodPlan.{MethodPlan}
 use Rattle.plan_model.specs.declared.values.Hddl.{Hddl}
 use Rattle.plan_model.specs.declared.values.Compiled.{Compiled}
 use Rattle.plan_model.specs.task_networks.Net.{Net}
 use Rattle.plan_model.specs.task_networks.Tree.{Tree, open_leaf, done, split, Label, waits, ran, used, Address, label, label_at, work_of, IsAddress, IsOpen, IsGrown}
 use Rattle.plan_model.specs.plan_meaning.Compilation.{IsCompiled}
 use Rattle.plan_model.specs.plan_meaning.Truth.{State}
-use Rattle.plan_model.specs.plan_meaning.Network.{Work, action, check, task, GroundMethod, network, child_of, ground_work, IsGroundMethod}
+use Rattle.plan_model.specs.plan_meaning.Network.{Work, action, check, task, GroundMethod, network, child_of, ground_work}
 use Rattle.plan_model.specs.plan_meaning.Solution.{top_work, Allows, AllowsMethod, next, initial}
 use Rattle.plan_model.proofs.task_networks.Parents.{parent_label, child_label}
 use Rattle.tree_core.proofs.Gets.{mapped, get-map}
@@ -22,7 +20,7 @@ use Rattle.schedules.specs.latest.Choices.{IsChoice}
 use Rattle.schedules.proofs.latest.GrownTrees.{tree_there, ground_at, simple_at, its_work}
 use Rattle.schedules.proofs.latest.Relabelled.{same_shape}
 use Rattle.plan_encoder.specs.Calls.{is_check}
-use Rattle.plan_encoder.specs.ChosenValues.{with_values, CanHave, method_with, work_with, chosen, is_checked_by, is_checked, is_check_at, chooser_by, asking_by, chooser, asking, state_in, LabelMayStand, MayStand}
+use Rattle.plan_encoder.specs.ChosenValues.{with_values, CanHave, method_with, work_with, chosen, is_checked_by, is_checked, is_check_at, asking_by, chooser, asking, state_in, LabelMayStand, MayStand}
 use Rattle.plan_encoder.proofs.CompiledMethods.{works_are, head_no_check, check_first, first_is_check, checked_or_tested}
 use Rattle.plan_encoder.proofs.ChosenTrees.{label_chosen}
 
@@ -75,7 +73,8 @@ module _ (c : Compiled) where
         let (t, lab, is_work) = child_label N tree grown q g 0 (child_of g child) e work in
         go t lab (is_work ∙ is_check_work g child.head _ head)
       where
-        go : (t : Tree N) → label_at N tree (0 ∷ q) ≡ Some (label N t) → work_of N t ≡ check g.number g.values → label_at N tree (0 ∷ q) ≡ Some (ran (check g.number g.values))
+        go : (t : Tree N) → label_at N tree (0 ∷ q) ≡ Some (label N t) → work_of N t ≡ check g.number g.values
+            → label_at N tree (0 ∷ q) ≡ Some (ran (check g.number g.values))
         go (open_leaf w) lab k = absurd (no_leaves (0 ∷ q) (w, lab))
         go (done w) lab k = lab ∙ ap (λ z. Some (ran z)) k
         go (split m ts) lab k = absurd (let x = head_no_check c m in let y = ap is_check k in cc)
@@ -99,7 +98,8 @@ module _ (c : Compiled) where
           itself : (p : Address) (o : Option (Label N)) → label_at N tree p ≡ o → is_check_at c o ≡ false → asking_by c p o ≡ p → Asks p
           itself p o e f g = inl (sym (ap (asking c tree) (chooses_itself p o e f) ∙ ap (asking_by c p) e ∙ g))
 
-          nothing : (p : Address) (o : Option (Label N)) → label_at N tree p ≡ o → ((v : List ℕ) (i : ℕ) → LabelMayStand c tree labels p o v i) → Asks p
+          nothing : (p : Address) (o : Option (Label N)) → label_at N tree p ≡ o
+              → ((v : List ℕ) (i : ℕ) → LabelMayStand c tree labels p o v i) → Asks p
           nothing p o e f = inr (λ v i. subst (λ z. LabelMayStand c tree labels p z v i) (sym e) (f v i))
 
           only : (p : Address) (o : Option (Label N)) → label_at N tree p ≡ o → Asks p
@@ -119,16 +119,19 @@ module _ (c : Compiled) where
               go true f = nothing p (Some (used g)) e (λ v i. inl f)
               go false f = itself p (Some (used g)) e refl (ap (λ b. cond b (0 ∷ p) p) f)
 
-      module _ (values : Address → List ℕ) (gap : Address → ℕ) (stands : (p : Address) → IsAddress N tree p → MayStand c tree labels p (values (chooser c tree p)) (gap p)) where
+      module _ (values : Address → List ℕ) (gap : Address → ℕ)
+          (stands : (p : Address) → IsAddress N tree p → MayStand c tree labels p (values (chooser c tree p)) (gap p)) where
         -- what is asked of node p, whose label this is
-        at_label : (p : Address) (l : Label N) → label_at N tree p ≡ Some l → LabelMayStand c tree labels p (Some l) (values (chooser c tree p)) (gap p)
+        at_label : (p : Address) (l : Label N) → label_at N tree p ≡ Some l
+            → LabelMayStand c tree labels p (Some l) (values (chooser c tree p)) (gap p)
         at_label p l e = subst (λ z. LabelMayStand c tree labels p z (values (chooser c tree p)) (gap p)) e (stands p (l, e))
 
         chooser_of_used : (q : Address) (g : GroundMethod) → label_at N tree q ≡ Some (used g) → chooser c tree q ≡ q
         chooser_of_used [] g e = refl
         chooser_of_used (i ∷ q) g e = ap (λ o. cond (is_check_at c o) q (i ∷ q)) e
 
-        chooser_of_check : (q : Address) (m : ℕ) (old : List ℕ) → label_at N tree (0 ∷ q) ≡ Some (ran (check m old)) → chooser c tree (0 ∷ q) ≡ q
+        chooser_of_check : (q : Address) (m : ℕ) (old : List ℕ) → label_at N tree (0 ∷ q) ≡ Some (ran (check m old))
+            → chooser c tree (0 ∷ q) ≡ q
         chooser_of_check q m old e = ap (λ o. cond (is_check_at c o) q (0 ∷ q)) e
 
         -- each method can have the values that are chosen for it
@@ -147,7 +150,8 @@ module _ (c : Compiled) where
             ]
 
         -- and its node can be executed in its gap
-        pub each_allowed : (p : Address) → IsAddress N tree p → AllowedAt N State (Allows c) (next c) (initial c) (chosen c tree values) labels p (gap p)
+        pub each_allowed : (p : Address) → IsAddress N tree p
+            → AllowedAt N State (Allows c) (next c) (initial c) (chosen c tree values) labels p (gap p)
         each_allowed p (k, e) l f = go p k e (let x : new_label N (work_with values) (method_with values) p k ≡ l = some_once (sym (ap (option_map (new_label N (work_with values) (method_with values) p)) e) ∙ sym (label_chosen c tree values p) ∙ f) in x)
           where
             some_once : {A : Type 0} {x y : A} → Some x ≡ Some y → x ≡ y
@@ -166,7 +170,8 @@ module _ (c : Compiled) where
               | inr x ↦ subst (λ z. In q (used (with_values g (values z)))) (chooser_of_used q g e) x.1
             ]
 
-            go : (p : Address) (k : Label N) → label_at N tree p ≡ Some k → new_label N (work_with values) (method_with values) p k ≡ l → In p l
+            go : (p : Address) (k : Label N) → label_at N tree p ≡ Some k → new_label N (work_with values) (method_with values) p k ≡ l
+                → In p l
             go p (waits w) e n = absurd (no_leaves p (w, e))
             go p (used g) e n = subst (In p) n (method_allowed p g e)
             go p (ran (task t args)) e n = absurd (simple_at N tree grown p (task t args) e)

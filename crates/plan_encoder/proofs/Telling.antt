@@ -1,5 +1,5 @@
 -- What is said of the methods of a compiled problem tells their numbers, and so their pairs and their checks.
-use Rattle.std.proofs.Common.{ℕ, zero, suc, ◌≡◌, ◌↔◌, true, false, List, [], ◌∷◌, map, Option, Some, None, MatchOption, slice_get, refl, ap, sym, subst, ◌∙◌, Contains}
+use Rattle.std.proofs.Common.{ℕ, zero, suc, ◌≡◌, ◌↔◌, List, [], map, Option, Some, None, MatchOption, slice_get, refl, ap, sym, subst, ◌∙◌}
 use Rattle.std.specs.Option.{option_map_or}
 use Rattle.std.proofs.lemmas.Simd.{map-map}
 use Rattle.plan_texts.specs.Declared.{named}
@@ -15,11 +15,11 @@ use Rattle.plan_model.specs.declared.values.Hddl.{Hddl}
 use Rattle.plan_model.specs.declared.values.Compiled.{Compiled}
 use Rattle.plan_model.specs.Pairs.{Pairs}
 use Rattle.plan_model.specs.plan_meaning.Compilation.{IsCompiled}
-use Rattle.plan_model.specs.plan_meaning.Network.{GroundMethod, network, child_of, subtasks_of, ground_work, IsGroundMethod, top_task}
+use Rattle.plan_model.specs.plan_meaning.Network.{GroundMethod, network, child_of, subtasks_of, ground_work, IsGroundMethod}
 use Rattle.plan_model.specs.plan_meaning.Solution.{top_work}
 use Rattle.tree_core.proofs.Gets.{one_place, get-map}
 use Rattle.hplan_text.specs.ShownPlan.{name_of, task_name_by, method_name_by}
-use Rattle.schedules.specs.latest.Shown.{PlanWords, AreTelling}
+use Rattle.schedules.specs.latest.Shown.{AreTelling}
 use Rattle.schedules.proofs.latest.Rearranged.{map_same}
 use Rattle.plan_encoder.specs.Calls.{Decomposed, is_check, call, words}
 use Rattle.plan_encoder.proofs.CallsApart.{named_in, no_top_name}
@@ -32,7 +32,8 @@ module _ (c : Compiled) where
   check_head g k (Action a) v w = refl
   check_head g k Check v w = refl
 
-  pub checks_by_number : (m n : GroundMethod) → m.number ≡ n.number → map is_check ((network c).works m) ≡ map is_check ((network c).works n)
+  pub checks_by_number : (m n : GroundMethod) → m.number ≡ n.number
+      → map is_check ((network c).works m) ≡ map is_check ((network c).works n)
   checks_by_number m n e = go (slice_get c.methods m.number) ∙ ap (λ k. map is_check (option_map_or (subtasks_of n) (slice_get c.methods k) [])) e
     where
       go : (o : Option MethodPlan) → map is_check (option_map_or (subtasks_of m) o []) ≡ map is_check (option_map_or (subtasks_of n) o [])
@@ -51,7 +52,8 @@ module _ (c : Compiled) where
     abbrev task_word : MethodPlan → List ℕ
     task_word p = task_name_by c (slice_get c.hddl.tasks p.schema.task)
 
-    numbers_by_words : (i j : ℕ) (p q : MethodPlan) → slice_get c.methods i ≡ Some p → slice_get c.methods j ≡ Some q → task_word p ≡ task_word q
+    numbers_by_words : (i j : ℕ) (p q : MethodPlan) → slice_get c.methods i ≡ Some p → slice_get c.methods j ≡ Some q
+        → task_word p ≡ task_word q
         → method_name_by c (slice_get c.methods i) ≡ method_name_by c (slice_get c.methods j) → i ≡ j
     numbers_by_words zero zero p q f g x y = refl
     numbers_by_words (suc i) (suc j) p q f g x y =
@@ -72,7 +74,8 @@ module _ (c : Compiled) where
         let (s, e) = other_method c h mode sound is i p f in
         absurd (no_top_name c h mode sound is p.schema.task s e (x ∙ ap (λ t. task_name_by c (slice_get c.hddl.tasks t)) (top_method c h mode sound is q g).0))
 
-    pub number_told : (m n : GroundMethod) → IsGroundMethod c m → IsGroundMethod c n → (words c).split m ≡ (words c).split n → m.number ≡ n.number
+    pub number_told : (m n : GroundMethod) → IsGroundMethod c m → IsGroundMethod c n → (words c).split m ≡ (words c).split n
+        → m.number ≡ n.number
     number_told m n a b e = numbers_by_words m.number n.number a.plan b.plan a.is b.is
         (sym (ap (name_of c) (head_is c m a.plan a.is)) ∙ ap (λ (z : Decomposed). z.task.name) e ∙ ap (name_of c) (head_is c n b.plan b.is))
         (ap (λ (z : Decomposed). z.method) e)

@@ -82,6 +82,13 @@ module _ (c : Compiled) where
       → SomeSolutionShows plan
       ↔ (GoalAfter labels × ((gap : Address → ℕ) × IsGapFunction (network c) tree (actions plan node) (MayStandSomehow tree labels) gap))
 
+  -- and some solution shows it exactly where it has such a tree
+  abbrev pub SolutionsExactlyWherePlaced : Type 0
+  SolutionsExactlyWherePlaced = (h : Hddl) (mode : Checks) → IsOf h mode c → (plan : HPlan)
+      → SomeSolutionShows plan
+      ↔ ((tree : Tree (network c)) × (node : ℕ → Address) × (labels : List (Label (network c))) × HasTree plan tree node labels × GoalAfter labels
+      × (gap : Address → ℕ) × IsGapFunction (network c) tree (actions plan node) (MayStandSomehow tree labels) gap)
+
   -- The schedule of the latest gap function is a solution that shows the plan, with any values with which each node may stand in its gap;
   -- and it is the latest for these values too.
   pub record IsLatestSolution (plan : HPlan) (tree : Tree (network c)) (node : ℕ → Address) (labels : List (Label (network c)))

@@ -6,7 +6,6 @@ use Rattle.plan_model.specs.declared.values.Compiled.{Compiled}
 use Rattle.plan_model.specs.plan_meaning.Network.{Work, action, check, task, GroundMethod, network, IsGroundMethod}
 use Rattle.plan_model.specs.plan_meaning.Solution.{top_work}
 use Rattle.schedules.specs.latest.PlanLines.{SplitLine, PlanLines}
-use Rattle.schedules.specs.latest.Shown.{PlanWords}
 use Rattle.plan_encoder.specs.Calls.{Call, Decomposed, is_check, call, words}
 
 module _ (c : Compiled) (plan : PlanLines ℕ Call Decomposed) where

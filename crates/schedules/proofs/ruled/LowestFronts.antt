@@ -1,4 +1,4 @@
--- Slots that follow the rule of lowest free slots are the lowest ones of part G.
+-- Slots that follow the rule of lowest free slots are the lowest ones of the front, and back.
 use Rattle.std.proofs.Common.{ℕ, zero, suc, ◌≡◌, ◌<◌, ◌≤◌, ◌↔◌, inl, inr, List, [], ◌∷◌, ◌++◌, map, filter, Bool, true, false, not, cond, Some, refl, ap, sym, subst, ◌∙◌, Contains, append_assoc, arith}
 use Rattle.std.proofs.lemmas.List.{map-append}
 use Rattle.std.proofs.lemmas.List.Elements.{Contains-append_left, Contains-append_right, Contains-append_cases}
