@@ -20,7 +20,7 @@ use Rattle.bound_calc.specs.stratifier.Links.{IsSubtask}
 use Rattle.bound_calc.specs.stratifier.Conditions.{IsNumbered, IsSmallMethod, IsSmallCompiled, HaveNoCycle}
 use Rattle.bound_calc.proofs.stratifier.Compiled.{have_no_cycle}
 use Rattle.bound_calc.specs.Lines.{HaveLines}
-use Rattle.bound_calc.specs.Soundly.{IsSoundlyCompiled}
+use Rattle.plan_texts.specs.SoundlyCompiled.{IsSoundlyCompiled}
 
 plans_count : (h : Hddl) (mode : Checks) (ss : List MethodSchema) (ps : List MethodPlan) → AreMethodPlans h mode ss ps → length ps ≡ length ss
 plans_count h mode [] [] a = refl

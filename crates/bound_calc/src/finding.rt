@@ -1,6 +1,6 @@
 ghost use Rattle.std.specs.Prelude.{IfOk, IfErr};
 ghost use Rattle.plan_model.specs.plan_meaning.Bound.{IsBound};
-ghost use Rattle.bound_calc.specs.Soundly.{IsSoundlyCompiled};
+ghost use Rattle.plan_texts.specs.SoundlyCompiled.{IsSoundlyCompiled};
 ghost use Rattle.bound_calc.specs.NoBound.{HasNoBound};
 
 use crate::cycle::cycle_words;

@@ -7,7 +7,7 @@ use Rattle.plan_model.specs.task_networks.Tree.{Tree, Label, Address, waits, ope
 use Rattle.plan_model.specs.task_networks.Executable.{AreAllowed, last_state}
 use Rattle.plan_model.specs.task_networks.Spelling.{Act, run, apply, label_of, Spells}
 use Rattle.htn_base.specs.Different.{AreDifferent}
-use Rattle.plan_model.proofs.task_networks.Lists.{Contains-later, not-in_empty, head_or_tail}
+use Rattle.plan_model.proofs.task_networks.Lists.{cuts, Contains-later, not-in_empty, head_or_tail}
 use Rattle.slot_machine.specs.Reached.{HasLeaf, SameSlots}
 use Rattle.slot_machine.specs.Causes.{IsWaiting, IsNextAt, Can}
 use Rattle.slot_machine.specs.Laws.{SpellsFront}
@@ -18,7 +18,6 @@ use Rattle.decoding.specs.declared.causes.Why.{Why}
 use Rattle.decoding.specs.declared.causes.Why.TheVariants.{UnknownAction, Arguments, SlotHolds, Waiting, SlotTaken, Constraint, Precondition, Unfinished, GoalFalse}
 use Rattle.decoding.specs.FailingAct.{place, slot_in, work_in, new_in, IsFormed, IsSlotTaken, IsMet, IsUnmet, ActSentence, IsReading, AreRead, Sentence, FailsBy, SpellsExecutable, StepFails, EndSentence, EndFails, Fails, SpellsSolution}
 use Rattle.decoding.specs.FailingLaws.{EachIsSolutionOrFails}
-use Rattle.decoding.proofs.Cuts.{cuts}
 use Rattle.decoding.proofs.FirstCauses.{extend, none_first, first_is_one}
 use Rattle.decoding.proofs.Taken.{labels, allowed_parts, allowed_push, same_labels, allowed_of, executable_of, can_push, could}
 

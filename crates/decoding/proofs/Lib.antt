@@ -1,6 +1,5 @@
 pub mod Formed
 pub mod Taken
-mod Cuts
 pub mod FirstCauses
 pub mod FailingSteps
 pub mod Searched

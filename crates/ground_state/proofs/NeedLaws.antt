@@ -14,7 +14,7 @@ use Rattle.plan_model.specs.declared.effects.Effect.TheVariants as E
 use Rattle.plan_model.specs.declared.schemas.ActionSchema.{ActionSchema}
 use Rattle.ground_state.specs.declared.need.Need.{Need}
 use Rattle.ground_state.specs.Room.{EachFits, fits_step, fits, effect_fits_step, effect_fits}
-use Rattle.ground_state.specs.Needs.{IsWithin, Allows, IsEnough, IsEnoughForEffect, HasRoom, IsEnoughForAction, IsEnoughWithin}
+use Rattle.ground_state.specs.Needs.{IsWithin, Allows, IsEnough, IsEnoughForEffect, IsEnoughForAction, IsEnoughWithin}
 use Rattle.ground_state.proofs.Lists.{take_next}
 use Rattle.ground_state.proofs.RoomEquations.{fits-roll, effect-roll}
 

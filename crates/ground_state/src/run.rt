@@ -1,4 +1,5 @@
 ghost use Rattle.std.specs.Prelude.{◌≡◌, ◌≤◌, [], length, IfOk, OnErr};
+ghost use Rattle.htn_base.specs.Limits.{most_steps};
 ghost use Rattle.ground_state.specs.Runs as spec;
 
 use crate::arguments::fill;
@@ -123,7 +124,7 @@ impl<'p> Run<'p> {
 /// `Run::take` says.
 pub fn run_plan(alloc: Global, p: &Pddl, plan: &[GroundAction]) -> Result<Verdict, Memory>
     requires runnable { spec.IsRunnable p.now }
-    requires few { length plan.now ≤ 1000000 }
+    requires few { length plan.now ≤ most_steps }
     ensures verdict { IfOk result (spec.IsVerdict p.now plan.now) }
 {
     let mut run = Run::new(alloc, p)?;

@@ -1,20 +1,24 @@
--- The numbers of words, found by their hashes or by the words: a word that is found so has its number, one that is not found
+-- The numbers of words, found in their buckets or by the words: a word that is found so has its number, one that is not found
 -- has none, and the next word's number is kept beside those of the words before it.
-use Rattle.std.proofs.Common.{◌≡◌, ◌≢◌, ℕ, zero, suc, ◌⊎◌, inl, inr, List, [], ◌∷◌, ◌++◌, length, Bool, true, false, cond, Option, Some, None, Result, Ok, Err, nat_eq, slice_get, get_or, Vec, Global, refl, sym, ap, subst, ◌∙◌, arith, true≢false}
-use Rattle.std.specs.Prelude.{OnOk, OnErr, IsSome}
-use Rattle.std.specs.HashMap.{HashMap, get}
+use Rattle.std.proofs.Common.{◌≡◌, ◌≢◌, ℕ, zero, suc, ◌+◌, ◌≤◌, ◌<◌, ◌⊎◌, inl, inr, List, [], ◌∷◌, ◌++◌, length, true, false, Option, Some, None, Result, Ok, Err, slice_get, take, get_or, Vec, Global, refl, sym, ap, subst, ◌∙◌, arith, true≢false}
+use Rattle.std.specs.Prelude.{OnOk, OnErr}
 use Rattle.std.specs.BTreeMap as tree
 use Rattle.std.specs.BTreeMap.{BTreeMap}
-use Rattle.std.specs.Map.{KeepsOthers, lookup}
+use Rattle.std.specs.Map.{KeepsOthers}
 use Rattle.std.specs.Ordering.{eq_by_cmp}
 use Rattle.std.specs.Option.{option_map_or}
 use Rattle.std.specs.Str.{bytes_eq}
+use Rattle.std.proofs.lemmas.Bool.{cases_eq}
+use Rattle.std.proofs.lemmas.List.{length-take}
+use Rattle.std.proofs.lemmas.List.Folds.{list_any_at}
 use Rattle.std.proofs.lemmas.List.Quantifiers.{position-Some}
-use Rattle.std.proofs.lemmas.Option.{slice_get-get_or}
+use Rattle.std.proofs.lemmas.Option.{slice_get-get_or, slice_get_within, get_or_from_slice_get}
+use Rattle.std.proofs.Math.Nat.{min-le_left}
 use Rattle.std.proofs.lemmas.Slice.Eq.{bytes_eq-Decides}
-use Rattle.htn_base.specs.Table.{number_of, hash_of, is_word_at, number_by_word, IsKept, IsNameTable, IsTable}
+use Rattle.htn_base.specs.declared.name.Index.{Index}
+use Rattle.htn_base.specs.Table.{number_of, bucket_of, is_word_at, number_by_word, IsKept, AreKept, IsNameTable, IsTable}
 use Rattle.htn_base.proofs.OrderedLemmas.{key_order, list_order, others-same}
-use Rattle.htn_base.proofs.TableLemmas.{number_there}
+use Rattle.htn_base.proofs.TableLemmas.{number_there, new_there}
 
 -- what is read behind one more item
 read_push : {X : Type 0} (xs : List X) (x y : X) (k : ℕ) → slice_get (xs ++ x ∷ []) k ≡ Some y → (slice_get xs k ≡ Some y) ⊎ ((length xs ≡ k) × (Some x ≡ Some y))
@@ -27,7 +31,16 @@ read_push (z ∷ xs) x y (suc k) e = by (read_push xs x y k e)
     by (inl f) = inl f
     by (inr f) = inr (let last = f.0 in omega (arith, last), f.1)
 
-module _ {S : Type 0} (first : HashMap ℕ ℕ S) (others : BTreeMap (Vec ℕ Global) ℕ) (words : List (List ℕ)) (table : IsNameTable first others words) (word : List ℕ) where
+-- what holds of each number from a place up to another, and of that at the other, holds of each of them
+pub each-next : (P : ℕ → Type 0) (xs : List ℕ) (start place : ℕ) → ((i n : ℕ) → start ≤ i → i < place → slice_get xs i ≡ Some n → P n)
+    → ((n : ℕ) → slice_get xs place ≡ Some n → P n) → (i n : ℕ) → start ≤ i → i < place + 1 → slice_get xs i ≡ Some n → P n
+each-next P xs start place before at i n from below read = by (cases_eq i place)
+  where
+    by : (i ≡ place) ⊎ (i ≡ place → ⊥) → P n
+    by (inl is) = at n (subst (λ k. slice_get xs k ≡ Some n) is read)
+    by (inr other) = before i n from (omega (arith, below, other)) read
+
+module _ (index : Index) (words : List (List ℕ)) (table : IsNameTable index words) (word : List ℕ) where
   there : (n : ℕ) → is_word_at words word n ≡ true → slice_get words n ≡ Some word
   there n e = by (slice_get words n) e
     where
@@ -49,78 +62,83 @@ module _ {S : Type 0} (first : HashMap ℕ ℕ S) (others : BTreeMap (Vec ℕ Gl
           let is : word ≡ get_or words k word = (bytes_eq-Decides word _).0 found.1 in
           absurd (not_there k (slice_get-get_or words k word found.0 ∙ ap (λ w. Some w) (sym is)))
 
-  -- a word has no number where its hash has none
-  pub none_under : get nat_eq first (hash_of word) ≡ None → None ≡ number_of words word
-  none_under none = nowhere λ k e. let kept = table.kept k word e in cc (none, kept.there)
-
-  -- or where it is neither that of the number under its hash nor that of the number kept for it
-  pub none_among : (n : ℕ) → get nat_eq first (hash_of word) ≡ Some n → is_word_at words word n ≡ false
-      → ((k : ℕ) → number_by_word others word ≡ Some k → is_word_at words word k ≡ false) → None ≡ number_of words word
-  none_among n under not_first not_other = nowhere λ k e. by k e (table.kept k word e)
+  -- a word has no number where it is neither that of a number in its bucket nor that of the number kept for it
+  pub none_among : (start end : ℕ) → start ≡ bucket_of index.buckets.items word → start + 4 ≤ end
+      → ((i n : ℕ) → start ≤ i → i < end → slice_get index.buckets.items i ≡ Some n → is_word_at words word n ≡ false)
+      → ((k : ℕ) → number_by_word index.others word ≡ Some k → is_word_at words word k ≡ false) → None ≡ number_of words word
+  none_among start end begins ends not_near not_other = nowhere λ k e. by k e (table.kept k word e)
     where
       passes : (k : ℕ) → slice_get words k ≡ Some word → is_word_at words word k ≡ true
       passes k e = ap (λ read. option_map_or (bytes_eq word) read false) e ∙ (bytes_eq-Decides word word).1 refl
 
-      by : (k : ℕ) → slice_get words k ≡ Some word → IsKept first others word k → ⊥
-      by k e kept = which kept.either
-        where
-          is : Some n ≡ Some kept.under
-          is = sym under ∙ kept.there
+      by : (k : ℕ) → slice_get words k ≡ Some word → IsKept index word k → ⊥
+      by k e (inl near) =
+          let from = near.from in
+          let below = near.below in
+          let not = not_near near.place k (omega (arith, begins, from)) (omega (arith, begins, ends, below)) near.there in
+          true≢false (sym (passes k e) ∙ not)
+      by k e (inr other) = true≢false (sym (passes k e) ∙ not_other k other)
 
-          which : (kept.under ≡ k) ⊎ (number_by_word others word ≡ Some k) → ⊥
-          which (inl own) = true≢false (sym (passes k e) ∙ subst (λ m. option_map_or (is_word_at words word) m true ≡ false) (is ∙ ap (λ m. Some m) own) not_first)
-          which (inr other) = true≢false (sym (passes k e) ∙ not_other k other)
-
--- a number that was put for the word, where another stands under its hash
-pub kept-there : {S : Type 0} (first : HashMap ℕ ℕ S) (others : BTreeMap (Vec ℕ Global) ℕ) (word : List ℕ) (k : ℕ)
-    → IsSome (get nat_eq first (hash_of word)) → number_by_word others word ≡ Some k → IsKept first others word k
-kept-there first others word k taken put = by (get nat_eq first (hash_of word)) refl taken
-  where
-    by : (found : Option ℕ) → get nat_eq first (hash_of word) ≡ found → IsSome found → IsKept first others word k
-    by None e some = absurd (true≢false (sym some))
-    by (Some n) e some = record { under = n; there = e; either = inr put }
-
--- a number is kept as before where another word's is kept for it
-pub kept-put : {S : Type 0} (first : HashMap ℕ ℕ S) (old new : BTreeMap (Vec ℕ Global) ℕ) (word other : List ℕ) (k : ℕ) → other ≢ word
-    → KeepsOthers (eq_by_cmp key_order) (tree.is_at (list_order word)) old.entries new.entries
-    → IsKept first old other k → IsKept first new other k
-kept-put first old new word other k differ keeps kept = record { under = kept.under; there = kept.there; either = by kept.either }
-  where
-    by : (kept.under ≡ k) ⊎ (number_by_word old other ≡ Some k) → (kept.under ≡ k) ⊎ (number_by_word new other ≡ Some k)
-    by (inl own) = inl own
-    by (inr there) = inr (others-same word other (λ e. differ (sym e)) old new keeps ∙ there)
-
--- or where nothing was put
-pub kept-same : {S : Type 0} (first : HashMap ℕ ℕ S) (old new : BTreeMap (Vec ℕ Global) ℕ) (word : List ℕ) (k : ℕ) → new.entries ≡ old.entries
-    → IsKept first old word k → IsKept first new word k
-kept-same first old new word k same kept = record { under = kept.under; there = kept.there; either = by kept.either }
-  where
-    by : (kept.under ≡ k) ⊎ (number_by_word old word ≡ Some k) → (kept.under ≡ k) ⊎ (number_by_word new word ≡ Some k)
-    by (inl own) = inl own
-    by (inr there) = inr (ap (lookup (tree.is_at (list_order word))) same ∙ there)
+-- a number is kept as before where another word's is put among the others
+pub kept-put : (index : Index) (new : BTreeMap (Vec ℕ Global) ℕ) (word other : List ℕ) (k : ℕ) → other ≢ word
+    → KeepsOthers (eq_by_cmp key_order) (tree.is_at (list_order word)) index.others.entries new.entries
+    → IsKept index other k → IsKept (record { buckets = index.buckets; others = new }) other k
+kept-put index new word other k differ keeps (inl near) = inl near
+kept-put index new word other k differ keeps (inr there) =
+    inr (others-same word other (λ e. differ (sym e)) index.others new keeps ∙ there)
 
 -- after a number was kept for a word that does not stand among the words
-module _ {S : Type 0} (old first : HashMap ℕ ℕ S) (before others : BTreeMap (Vec ℕ Global) ℕ) (words : List (List ℕ)) (word : List ℕ)
-    (table : IsNameTable old before words)
-    (stays : (k : ℕ) (w : List ℕ) → slice_get words k ≡ Some w → w ≢ word → IsKept old before w k → IsKept first others w k)
-    (absent : number_of words word ≡ None) where
-  kept_before : (k : ℕ) (w : List ℕ) → slice_get words k ≡ Some w → IsKept first others w k
-  kept_before k w e = stays k w e (λ is. let number = sym (ap (number_of words) is) ∙ number_there words w k table.table.differ e in cc (sym number ∙ absent)) (table.kept k w e)
-
+module _ (old new : Index) (words : List (List ℕ)) (word : List ℕ) (kept : AreKept old words)
+    (stays : (k : ℕ) (w : List ℕ) → slice_get words k ≡ Some w → w ≢ word → IsKept old w k → IsKept new w k)
+    (absent : (k : ℕ) → slice_get words k ≡ Some word → ⊥) where
   -- the words are found as before
-  pub still_kept : (new : List (List ℕ)) → new ≡ words → IsNameTable first others new
-  still_kept new same = subst (IsNameTable first others) (sym same) (record { table = table.table; kept = kept_before })
+  pub still_kept : AreKept new words
+  still_kept k w e = stays k w e (λ is. absent k (e ∙ ap (λ v. Some v) is)) (kept k w e)
 
   -- and so is the word, once it stands behind them
-  pub next_kept : {E : Type 0} (new : List (List ℕ)) (answer : Result Unit E) → IsKept first others word (length words)
-      → OnOk answer (new ≡ words ++ word ∷ []) → OnErr answer (new ≡ words) → IsTable new
-      → IsNameTable first others new
-  next_kept {E = E} new answer next put same sound = record { table = sound; kept = by answer put same }
+  pub next_kept : IsKept new word (length words) → AreKept new (words ++ word ∷ [])
+  next_kept next k w e = which (read_push words word w k e)
     where
-      by : (answer : Result Unit E) → OnOk answer (new ≡ words ++ word ∷ []) → OnErr answer (new ≡ words) → (k : ℕ) (w : List ℕ) → slice_get new k ≡ Some w → IsKept first others w k
-      by (Err error) put same k w e = kept_before k w (ap (λ ws. slice_get ws k) (sym same) ∙ e)
-      by (Ok done) put same k w e = which (read_push words word w k (ap (λ ws. slice_get ws k) (sym put) ∙ e))
-        where
-          which : (slice_get words k ≡ Some w) ⊎ ((length words ≡ k) × (Some word ≡ Some w)) → IsKept first others w k
-          which (inl read) = kept_before k w read
-          which (inr last) = subst (λ v. IsKept first others v k) (ap (λ v. option_map_or (λ z. z) v word) last.1) (subst (IsKept first others word) last.0 next)
+      which : (slice_get words k ≡ Some w) ⊎ ((length words ≡ k) × (Some word ≡ Some w)) → IsKept new w k
+      which (inl read) = still_kept k w read
+      which (inr last) =
+          subst (λ v. IsKept new v k) (ap (λ v. option_map_or (λ z. z) v word) last.1) (subst (IsKept new word) last.0 next)
+
+-- after the numbers of the first words the next one was kept for its word
+module _ (old new : Index) (words : List (List ℕ)) (word : List ℕ) (n : ℕ) (table : IsTable words)
+    (there : slice_get words n ≡ Some word) where
+  below : (k : ℕ) (w : List ℕ) → slice_get (take n words) k ≡ Some w → k < n
+  below k w e = omega (arith, slice_get_within (take n words) k w e, length-take n words, min-le_left n (length words))
+
+  not_before : (k : ℕ) → slice_get (take n words) k ≡ Some word → ⊥
+  not_before k e =
+      let same = (bytes_eq-Decides word _).1 (sym (get_or_from_slice_get (take n words) k word word e)) in
+      let among = list_any_at (bytes_eq word) (take n words) k word (slice_get_within (take n words) k word e) same in
+      true≢false (sym among ∙ new_there words word n table.differ there)
+
+  pub first_kept : AreKept old (take n words) → IsKept new word n
+      → ((k : ℕ) (other : List ℕ) → k < n → other ≢ word → IsKept old other k → IsKept new other k) → AreKept new (take n words ++ word ∷ [])
+  first_kept kept own before =
+      let within = slice_get_within words n word there in
+      let many : n ≡ length (take n words) = omega (arith, length-take n words, min-le_left n (length words), within) in
+      next_kept old new (take n words) word kept (λ k w e. before k w (below k w e)) not_before (subst (IsKept new word) many own)
+
+-- after a number was kept for a word that has none in the table
+module _ (old new : Index) (words : List (List ℕ)) (word : List ℕ) (table : IsNameTable old words)
+    (stays : (k : ℕ) (w : List ℕ) → slice_get words k ≡ Some w → w ≢ word → IsKept old w k → IsKept new w k)
+    (none : number_of words word ≡ None) where
+  absent : (k : ℕ) → slice_get words k ≡ Some word → ⊥
+  absent k e = let number = number_there words word k table.table.differ e in cc (number, none)
+
+  -- the table is found as before
+  pub table-still : (now : List (List ℕ)) → now ≡ words → IsNameTable new now
+  table-still now same =
+      let still = still_kept old new words word table.kept stays absent in
+      subst (IsNameTable new) (sym same) (record { table = table.table; kept = still })
+
+  -- and so is the word, once it stands behind the others
+  pub table-next : {E : Type 0} (now : List (List ℕ)) (answer : Result Unit E) → IsKept new word (length words)
+      → OnOk answer (now ≡ words ++ word ∷ []) → OnErr answer (now ≡ words) → IsTable now → IsNameTable new now
+  table-next now (Err error) own put same sound = table-still now same
+  table-next now (Ok done) own put same sound =
+      record { table = sound; kept = subst (AreKept new) (sym put) (next_kept old new words word table.kept stays absent own) }

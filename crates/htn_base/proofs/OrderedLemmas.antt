@@ -1,6 +1,6 @@
 -- What an ordered map keeps for a list of numbers, where another list is put into it.
 use Rattle.std.proofs.Common.{ℕ, ◌≡◌, ◌≢◌, Bool, true, false, List, Vec, Global, refl, ap, sym, ◌∙◌, true≢false}
-use Rattle.std.specs.Map.{IsKeyTest, AreApart, KeepsOthers, lookup}
+use Rattle.std.specs.Map.{IsKeyTest, AreApart, KeepsOthers}
 use Rattle.std.specs.BTreeMap as tree
 use Rattle.std.specs.BTreeMap.{BTreeMap}
 use Rattle.std.specs.Cmp.Lexicographic.{slice_cmp}

@@ -53,7 +53,7 @@ module _ (words : List (List ℕ)) (word : List ℕ) (n : ℕ) (differ : AreDiff
       ap (λ t. cond t (Some (position_or_len (bytes_eq word) words)) None) found ∙ ap Some first
 
   -- and it does not stand among those in front of it
-  new_there : list_any (bytes_eq word) (take n words) ≡ false
+  pub new_there : list_any (bytes_eq word) (take n words) ≡ false
   new_there = list_any_none (bytes_eq word) (take n words) λ k d l.
       let less : k < n = omega (arith, l, length-take n words, min-le_left n (length words)) in
       let within : k < length words = omega (arith, less, slice_get_within words n word e) in

@@ -1,7 +1,6 @@
 -- The words of a name table, in the order in which they were first seen. A word's number is its place from 0.
-use Rattle.std.specs.Prelude.{ℕ, ◌≡◌, ◌<◌, ◌^◌, ◌⊎◌, Bool, false, List, [], ◌∷◌, ◌++◌, length, slice_get, nat_eq, Option, Some, None, All, position, Vec, if◌then◌else◌}
+use Rattle.std.specs.Prelude.{ℕ, ◌≡◌, ◌≤◌, ◌<◌, ◌+◌, ◌-◌, ◌^◌, ◌⊎◌, Bool, false, List, [], ◌∷◌, ◌++◌, length, slice_get, bit_and, Option, Some, None, All, position, Vec, if◌then◌else◌}
 use Rattle.std.specs.Hash.FoldHasher.{initial, write, finish}
-use Rattle.std.specs.HashMap.{HashMap, get}
 use Rattle.std.specs.declared.alloc.Global.{Global}
 use Rattle.std.specs.BTreeMap as tree
 use Rattle.std.specs.BTreeMap.{BTreeMap}
@@ -10,6 +9,7 @@ use Rattle.std.specs.Ordering.{nat_cmp}
 use Rattle.std.specs.List.{list_any}
 use Rattle.std.specs.Option.{option_map_or}
 use Rattle.std.specs.Str.{bytes_eq}
+use Rattle.htn_base.specs.declared.name.Index.{Index}
 use Rattle.htn_base.specs.Different.{AreDifferent}
 use Rattle.htn_base.specs.Packed.{parts_from, EndsFrom}
 use Rattle.htn_base.specs.Words.{folded, IsFolded}
@@ -45,20 +45,29 @@ is_word_at words word n = option_map_or (bytes_eq word) (slice_get words n) fals
 abbrev pub number_by_word : BTreeMap (Vec ℕ Global) ℕ → List ℕ → Option ℕ
 number_by_word others word = tree.get_by (λ key. slice_cmp nat_cmp word key.items) others
 
--- a number that is found by its word: it stands under the word's hash, or under the word where another stands under the hash
-pub record IsKept {S : Type 0} (first : HashMap ℕ ℕ S) (others : BTreeMap (Vec ℕ Global) ℕ) (word : List ℕ) (k : ℕ) : Type 0 where
-  pub under : ℕ
-  pub there : get nat_eq first (hash_of word) ≡ Some under
-  pub either : (under ≡ k) ⊎ (number_by_word others word ≡ Some k)
+-- where the bucket of a word begins, among buckets of four numbers, as many as a power of two
+abbrev pub bucket_of : List ℕ → List ℕ → ℕ
+bucket_of buckets word = bit_and (hash_of word) (length buckets - 4)
 
--- no word with this hash has its number under it
-abbrev pub IsFree : {S : Type 0} → HashMap ℕ ℕ S → List (List ℕ) → ℕ → Type 0
-IsFree first words hash = (n : ℕ) (word : List ℕ) → get nat_eq first hash ≡ Some n → slice_get words n ≡ Some word → hash_of word ≡ hash → ⊥
+-- a number that stands in the bucket of the word
+pub record IsInBucket (buckets word : List ℕ) (k : ℕ) : Type 0 where
+  pub place : ℕ
+  pub from : bucket_of buckets word ≤ place
+  pub below : place < bucket_of buckets word + 4
+  pub there : slice_get buckets place ≡ Some k
+
+-- a number that is found by its word: it stands in the word's bucket, or among the others under the word
+abbrev pub IsKept : Index → List ℕ → ℕ → Type 0
+IsKept index word k = IsInBucket index.buckets.items word k ⊎ (number_by_word index.others word ≡ Some k)
+
+-- the number of each of these words is found by it
+abbrev pub AreKept : Index → List (List ℕ) → Type 0
+AreKept index words = (k : ℕ) (word : List ℕ) → slice_get words k ≡ Some word → IsKept index word k
 
 -- what holds of a name table: its words, and that the number of each is found by it
-pub record IsNameTable {S : Type 0} (first : HashMap ℕ ℕ S) (others : BTreeMap (Vec ℕ Global) ℕ) (words : List (List ℕ)) : Type 0 where
+pub record IsNameTable (index : Index) (words : List (List ℕ)) : Type 0 where
   pub table : IsTable words
-  pub kept : (k : ℕ) (word : List ℕ) → slice_get words k ≡ Some word → IsKept first others word k
+  pub kept : AreKept index words
 
 -- a word in lower case that does not stand among the words
 pub record IsNewWord (words : List (List ℕ)) (word : List ℕ) : Type 0 where

@@ -1,15 +1,14 @@
-ghost use Rattle.std.specs.Prelude.{◌≡◌, ◌≢◌, [], ℕ, List, true, false, length, slice_get, take, nat_eq, IsSome, IfOk, IfSome, OnOk, OnErr, Some, None};
-ghost use Rattle.std.specs.HashMap.{get};
+ghost use Rattle.std.specs.Prelude.{◌≡◌, ◌≢◌, ◌<◌, ◌≤◌, ◌-◌, [], ℕ, List, true, length, slice_get, take, IfOk, IfSome, OnOk, OnErr, Some};
 ghost use Rattle.std.specs.Option.{option_copied, option_map};
 ghost use Rattle.htn_base.specs.Table as spec;
-ghost use Rattle.htn_base.specs.Table.{is_word_at, IsKept, IsFree};
+ghost use Rattle.htn_base.specs.Table.{is_word_at, IsKept, AreKept};
 ghost use Rattle.htn_base.specs.Words.{folded, IsFolded};
 
 use crate::marks::Marks;
 use crate::memory::Memory;
 use crate::word_list::WordList;
 use std::alloc::Global;
-use std::collections::{BTreeMap, HashMap};
+use std::collections::BTreeMap;
 use std::hash::{FoldHasher, Hasher};
 use std::marker::Model;
 
@@ -23,20 +22,31 @@ pub struct Name {
 pub struct NameTable {
     alloc: Global,
     words: WordList,
-    // by the hash of a word, the number of the first word that has it
-    first: HashMap<u64, u32>,
-    // the numbers of the words whose hash a word before them has. Whoever writes a text can give all its words one hash, so
-    // these are found by the order of their bytes
+    index: Index,
+}
+
+// Where the numbers of words are found: at most four in a word's bucket, and the others by the order of their bytes. So
+// whoever writes a text, and picks its words by their hashes, makes no word slow to find.
+#[derive(Drop)]
+struct Index {
+    // buckets of four numbers, as many as a power of two
+    buckets: Vec<u32>,
+    // the numbers of the words whose bucket was full
     others: BTreeMap<Vec<u8>, u32>,
 }
+
+// The numbers in a bucket.
+const BUCKET: usize = 4;
+
+// Stands in a bucket where it has no number: no word has this one.
+const NONE: u32 = 0xffff_ffff;
 
 impl Drop for NameTable {
     fn drop(self) {
         let NameTable {
             alloc: _,
             words: _,
-            first: _,
-            others: _,
+            index: _,
         } = self;
     }
 }
@@ -49,7 +59,7 @@ impl Model for NameTable {
 
     ghost view = { λ table. table.words };
 
-    ghost invariant = { λ table. IsNameTable table.first table.others table.words };
+    ghost invariant = { λ table. IsNameTable table.index table.words };
 }
 
 impl NameTable {
@@ -63,8 +73,10 @@ impl NameTable {
         NameTable {
             alloc,
             words: WordList::new(alloc),
-            first: HashMap::new(alloc),
-            others: BTreeMap::new(alloc),
+            index: Index {
+                buckets: Vec::new(alloc),
+                others: BTreeMap::new(alloc),
+            },
         }
     }
 
@@ -128,14 +140,7 @@ impl NameTable {
             return Ok(name);
         }
         let number = self.words.len() as u32;
-        keep(
-            self.alloc,
-            &mut self.first,
-            &mut self.others,
-            &self.words,
-            word,
-            number,
-        )?;
+        keep(self.alloc, &mut self.index, &self.words, word)?;
         self.words.push(word)?;
         Ok(Name { number })
     }
@@ -182,14 +187,16 @@ impl NameTable {
         ensures number { option_map (λ name. name.number) result ≡ number_of self.now word.now }
         ensures sound { IsTable self.now }
     {
-        let first = Name {
-            number: *self.first.get(&hash_of(word))?,
-        };
-        if is_at(&self.words, first.number, word) {
-            return Some(first);
+        let start = bucket_of(&self.index.buckets, word);
+        for place in start..start + BUCKET {
+            if let Some(number) = self.index.buckets.get(place) {
+                if is_at(&self.words, *number, word) {
+                    return Some(Name { number: *number });
+                }
+            }
         }
         let other = Name {
-            number: *self.others.get(word)?,
+            number: *self.index.others.get(word)?,
         };
         if is_at(&self.words, other.number, word) {
             return Some(other);
@@ -219,13 +226,14 @@ impl NameTable {
     }
 }
 
-// The hash of a word, all of its bytes at once.
-fn hash_of(word: &[u8]) -> u64
-    ensures { result ≡ spec.hash_of word.now }
+// Where the bucket of a word begins. The hash is of all its bytes at once.
+fn bucket_of(buckets: &[u32], word: &[u8]) -> usize
+    ensures start { result ≡ spec.bucket_of buckets.now word.now }
+    ensures within { result ≤ length buckets.now - 4 }
 {
     let mut hasher = FoldHasher::default();
     hasher.write(word);
-    hasher.finish()
+    hasher.finish() as usize & buckets.len().saturating_sub(BUCKET)
 }
 
 // Whether this is the word of the number.
@@ -238,43 +246,52 @@ fn is_at(words: &WordList, number: u32, word: &[u8]) -> bool
     }
 }
 
-// Whether a word with this hash has its number under it.
-fn is_taken(first: &HashMap<u64, u32>, words: &WordList, hash: u64) -> bool
-    ensures taken { result ≡ true → IsSome (get nat_eq first.now hash) }
-    ensures free { result ≡ false → IsFree first.now words.now hash }
+// Keeps the number of a new word, which is the number of words. Where there are as many as buckets, the buckets are doubled.
+fn keep(alloc: Global, index: &mut Index, words: &WordList, word: &[u8]) -> Result<(), Memory>
+    ensures kept { OnOk result (IsKept index.new word.now (length words.now)) }
+    ensures before { (k : ℕ) (other : List ℕ) → slice_get words.now k ≡ Some other → other ≢ word.now
+        → IsKept index.old other k → IsKept index.new other k }
 {
-    let Some(number) = first.get(&hash) else {
-        return false;
-    };
-    match words.text(Name { number: *number }) {
-        Some(word) => hash_of(word) == hash,
-        None => false,
+    if words.len() >= index.buckets.len() / BUCKET {
+        let room = (2 * index.buckets.len()).max(4 * BUCKET);
+        *index = index_of(alloc, words, room)?;
     }
+    put(alloc, index, word, words.len() as u32)
 }
 
-// Keeps the number of a new word under its hash, or among the others where a word with this hash has its own there.
-fn keep(
-    alloc: Global,
-    first: &mut HashMap<u64, u32>,
-    others: &mut BTreeMap<Vec<u8>, u32>,
-    words: &WordList,
-    word: &[u8],
-    number: u32,
-) -> Result<(), Memory>
-    ensures kept { OnOk result (IsKept first.new others.new word.now number) }
-    ensures before { (k : ℕ) (other : List ℕ) → slice_get words.now k ≡ Some other → other ≢ word.now
-        → IsKept first.old others.old other k → IsKept first.new others.new other k }
+// Where the numbers of all words are found, in buckets for so many numbers.
+fn index_of(alloc: Global, words: &WordList, room: usize) -> Result<Index, Memory>
+    ensures kept { IfOk result (λ index. AreKept index words.now) }
 {
-    let hash = hash_of(word);
-    if is_taken(first, words, hash) {
-        let key = Vec::from_slice(alloc, word)?;
-        others.insert(key, number)?;
-        return Ok(());
+    let mut index = Index {
+        buckets: vec![in alloc; NONE; room]?,
+        others: BTreeMap::new(alloc),
+    };
+    for number in 0..words.len() {
+        let number = number as u32;
+        if let Some(word) = words.text(Name { number }) {
+            put(alloc, &mut index, word, number)?;
+        }
     }
-    match first.insert(hash, number) {
-        Ok(_) => Ok(()),
-        Err(_) => Err(Memory),
+    Ok(index)
+}
+
+// Puts a number into its word's bucket, in the place of one that no word before has, and else among the others.
+fn put(alloc: Global, index: &mut Index, word: &[u8], number: u32) -> Result<(), Memory>
+    ensures kept { OnOk result (IsKept index.new word.now number) }
+    ensures before { (k : ℕ) (other : List ℕ) → k < number → other ≢ word.now
+        → IsKept index.old other k → IsKept index.new other k }
+{
+    let start = bucket_of(&index.buckets, word);
+    for place in start..start + BUCKET {
+        if place < index.buckets.len() && index.buckets[place] >= number {
+            index.buckets[place] = number;
+            return Ok(());
+        }
     }
+    let key = Vec::from_slice(alloc, word)?;
+    index.others.insert(key, number)?;
+    Ok(())
 }
 
 // Whether the word has no upper-case letter.

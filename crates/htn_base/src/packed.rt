@@ -250,10 +250,11 @@ impl<'a> PackedPart<'a> {
         }
     }
 
-    /// Puts the numbers in the place of what `into` had.
+    /// Puts the numbers in the place of what `into` had. After `Memory` it has the first of them, as many as had room.
     #[inline]
     pub fn copy_into(&self, into: &mut Vec<u32>) -> Result<(), Memory>
         ensures copied { OnOk result (into.new.items ≡ self.now) }
+        ensures first { OnErr result (into.new.items ≡ take (length into.new.items) self.now) }
     {
         into.clear();
         for j in 0..self.len() {

@@ -13,7 +13,7 @@ use Rattle.plan_model.specs.task_networks.Bound.{itself}
 use Rattle.plan_model.specs.plan_meaning.Network.{top_task}
 use Rattle.plan_model.specs.plan_meaning.Schemas.{task}
 use Rattle.plan_model.specs.plan_meaning.Bound.{IsBound}
-use Rattle.bound_calc.specs.Soundly.{IsSoundlyCompiled}
+use Rattle.plan_texts.specs.SoundlyCompiled.{IsSoundlyCompiled}
 use Rattle.command_words.specs.Names.{Word}
 use Rattle.command_words.specs.Words.{TranslationRequest, BoundRequest, ValidationRequest, Request, to_translate, to_bound, to_validate, number_of}
 use Rattle.htn_cli.specs.Answer.{Output, Answer, refuses, gives, told_alone}

@@ -1,7 +1,7 @@
 ghost use Rattle.std.specs.Prelude.{◌≡◌, ◌<◌, ◌≤◌, [], ◌∷◌, length, slice_get, Some, IfOk, IfErr};
 ghost use Rattle.htn_base.specs.Limits.{longest_input};
 ghost use Rattle.plan_model.specs.plan_meaning.Bound.{IsBound};
-ghost use Rattle.bound_calc.specs.Soundly.{IsSoundlyCompiled};
+ghost use Rattle.plan_texts.specs.SoundlyCompiled.{IsSoundlyCompiled};
 ghost use Rattle.hddl_reader.specs.declared.sections.Language.TheVariants as language;
 ghost use Rattle.text_values.specs.TextFaults.{IsLeastFault};
 ghost use Rattle.htn_cli.specs.Problem.{SpellProblem};

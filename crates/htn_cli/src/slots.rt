@@ -1,7 +1,7 @@
 ghost use Rattle.std.specs.Prelude.{ℕ, IfSome, IfOk, IfErr};
 ghost use Rattle.std.specs.Option.{option_copied};
 ghost use Rattle.command_words.specs.Bounds.{ComesTo, IsNumeral};
-ghost use Rattle.bound_calc.specs.Soundly.{IsSoundlyCompiled};
+ghost use Rattle.plan_texts.specs.SoundlyCompiled.{IsSoundlyCompiled};
 ghost use Rattle.htn_cli.specs.Slots.{RefusesSlots};
 ghost use Rattle.htn_cli.specs.Stops.{AreSlots, IsChosen, IsComputed, IsGiven, StopsChosen, StopsComputed, StopsGiven};
 

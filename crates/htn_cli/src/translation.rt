@@ -4,7 +4,7 @@ ghost use Rattle.outside_io.specs.Seen.{Seen};
 ghost use Rattle.command_words.specs.Names.{AreApart};
 ghost use Rattle.command_words.specs.Bounds.{IsNumeral};
 ghost use Rattle.command_words.specs.Words.{to_translate, translation_of};
-ghost use Rattle.bound_calc.specs.Soundly.{IsSoundlyCompiled};
+ghost use Rattle.plan_texts.specs.SoundlyCompiled.{IsSoundlyCompiled};
 ghost use Rattle.htn_cli.specs.Answer.{gives};
 ghost use Rattle.htn_cli.specs.Made.{GivesOutput, IsMadeFor, IsMadeWith, NamesDiffer, StopsMadeFor, manner_of, output_of};
 ghost use Rattle.htn_cli.specs.Calling.{PassesInputs, StopsInputs};

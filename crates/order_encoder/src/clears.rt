@@ -1,4 +1,4 @@
-ghost use Rattle.std.specs.Prelude.{ℕ, ◌≡◌, ◌<◌, ◌+◌, ◌^◌, ◌++◌, IfOk, OnOk};
+ghost use Rattle.std.specs.Prelude.{ℕ, ◌≡◌, ◌<◌, ◌+◌, ◌^◌, ◌++◌, length, take, IfOk, OnOk, OnErr};
 ghost use Rattle.plan_model.specs.declared.terms.Term.TheVariants.{Var};
 ghost use Rattle.order_encoder.specs.NamedOrders as of;
 ghost use Rattle.order_encoder.specs.NamedOrders.{clears, Clears};
@@ -32,7 +32,8 @@ pub fn clearing(
     }
 }
 
-/// Puts the parts of this effect at the end: one in style adl, one a slot in style flat.
+/// Puts the parts of this effect at the end: one in style adl, one a slot in style flat. After `Memory` what was there stands in
+/// front of some of them.
 pub fn push_clearing(
     alloc: Global,
     n: &OrderNames,
@@ -44,6 +45,7 @@ pub fn push_clearing(
 ) -> Result<(), Memory>
     requires slots { n.now.first_slot + slots < 2 ^ 32 }
     ensures parts { OnOk result (into.new ≡ into.old ++ clears n.now slots depth style.now h) }
+    ensures in_front { OnErr result (take (length into.old) into.new ≡ into.old) }
 {
     match style {
         Style::Adl => into.put(clear_all(alloc, n, h, depth)),

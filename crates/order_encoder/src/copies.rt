@@ -1,4 +1,4 @@
-ghost use Rattle.std.specs.Prelude.{◌≡◌, ◌<◌, ◌+◌, ◌^◌, ◌++◌, IfOk, OnOk};
+ghost use Rattle.std.specs.Prelude.{◌≡◌, ◌<◌, ◌+◌, ◌^◌, ◌++◌, length, take, IfOk, OnOk, OnErr};
 ghost use Rattle.order_encoder.specs.NamedOrders as of;
 ghost use Rattle.order_encoder.specs.NamedOrders.{copies, Copies, ForVariables};
 
@@ -33,7 +33,8 @@ pub fn copying(
     }
 }
 
-/// Puts the parts of this effect at the end: one in style adl, one a slot in style flat.
+/// Puts the parts of this effect at the end: one in style adl, one a slot in style flat. After `Memory` what was there stands in
+/// front of some of them.
 pub fn push_copying(
     alloc: Global,
     n: &OrderNames,
@@ -47,6 +48,7 @@ pub fn push_copying(
     requires slots { n.now.first_slot + slots < 2 ^ 32 }
     ensures parts { OnOk result
         (into.new ≡ into.old ++ copies n.now slots depth style.now h child) }
+    ensures in_front { OnErr result (take (length into.old) into.new ≡ into.old) }
 {
     match style {
         Style::Adl => into.put(copy_all(alloc, n, h, child, depth)),

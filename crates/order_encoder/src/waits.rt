@@ -1,4 +1,4 @@
-ghost use Rattle.std.specs.Prelude.{ℕ, ◌≡◌, ◌<◌, ◌+◌, ◌^◌, ◌++◌, IfOk, OnOk};
+ghost use Rattle.std.specs.Prelude.{ℕ, ◌≡◌, ◌<◌, ◌+◌, ◌^◌, ◌++◌, length, take, IfOk, OnOk, OnErr};
 ghost use Rattle.plan_model.specs.declared.terms.Term.TheVariants.{Var};
 ghost use Rattle.order_encoder.specs.NamedOrders as of;
 ghost use Rattle.order_encoder.specs.NamedOrders.{waits, Waits};
@@ -33,7 +33,8 @@ pub fn waiting(
     }
 }
 
-/// Puts the parts of this condition at the end: one in style adl, one a slot in style flat.
+/// Puts the parts of this condition at the end: one in style adl, one a slot in style flat. After `Memory` what was there stands in
+/// front of some of them.
 pub fn push_waiting(
     alloc: Global,
     n: &OrderNames,
@@ -45,6 +46,7 @@ pub fn push_waiting(
 ) -> Result<(), Memory>
     requires slots { n.now.first_slot + slots < 2 ^ 32 }
     ensures parts { OnOk result (into.new ≡ into.old ++ waits n.now slots depth style.now h) }
+    ensures in_front { OnErr result (take (length into.old) into.new ≡ into.old) }
 {
     match style {
         Style::Adl => into.put(wait_for_all(alloc, n, h, depth)),

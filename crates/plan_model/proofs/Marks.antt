@@ -1,10 +1,10 @@
 -- Marks of types as they are set one by one, and what a closed list of marks says of chains.
-use Rattle.std.proofs.Common.{ℕ, ◌≡◌, ◌+◌, ◌<◌, ◌≤◌, ◌↔◌, ◌⊎◌, inl, inr, List, [], ◌∷◌, length, Bool, true, false, cond, IsFalse, get_or, set, take, refl, sym, subst, ap, ◌∙◌, arith, length-set, get_or-set_same, get_or-set_other}
-use Rattle.std.proofs.lemmas.List.{get_or_past, take_more, take_all}
+use Rattle.std.proofs.Common.{ℕ, suc, ◌≡◌, ◌+◌, ◌<◌, ◌≤◌, ◌↔◌, ◌⊎◌, inl, inr, List, [], ◌∷◌, length, Bool, true, false, cond, IsTrue, IsFalse, get_or, set, take, drop, refl, sym, subst, ap, ◌∙◌, arith, length-set, get_or-set_same, get_or-set_other}
+use Rattle.std.proofs.lemmas.List.{get_or_past, take_more, take_all, take-append-drop}
 use Rattle.std.proofs.lemmas.Bool.{cases_eq, cases_lt, false≢true}
 use Rattle.std.specs.Prelude.{Contains}
-use Rattle.std.proofs.lemmas.List.Sums.{sum_by-set}
-use Rattle.std.proofs.lemmas.List.Elements.{Contains-get_or, Contains-push, Contains-push_cases, Contains-append_left}
+use Rattle.std.proofs.lemmas.List.Sums.{sum_by-set, sum_by-cons}
+use Rattle.std.proofs.lemmas.List.Elements.{Contains-get_or, Contains-push, Contains-push_cases, Contains-append_left, Contains-append_right}
 use Rattle.plan_model.specs.declared.types.Parent.{Parent}
 use Rattle.plan_model.specs.Typing.{Leads, stay, climb}
 use Rattle.plan_model.specs.Parts.{IsMarked, unmarked, IsMarkedFurther, IsClosedUnder}
@@ -12,6 +12,14 @@ use Rattle.plan_model.specs.Parts.{IsMarked, unmarked, IsMarkedFurther, IsClosed
 -- now each type is marked from which a chain leads to one that was marked
 abbrev pub AreBelow : List Parent → List Bool → List Bool → Type 0
 AreBelow parents old new = (i : ℕ) → IsMarked new i ↔ ((j : ℕ) × IsMarked old j × Leads parents i j)
+
+-- what stands in a part of a list is one of the list
+pub Contains-part : {A : Type 0} (xs : List A) (first count k : ℕ) (d : A) → k < length (take count (drop first xs)) → Contains xs (get_or (take count (drop first xs)) k d)
+Contains-part xs first count k d l =
+    let rest = drop first xs in
+    let x = get_or (take count rest) k d in
+    let is = subst (λ ys. Contains ys x) (take-append-drop count rest) (Contains-append_left (take count rest) (drop count rest) x (Contains-get_or (take count rest) k d l)) in
+    subst (λ ys. Contains ys x) (take-append-drop first xs) (Contains-append_right (take first xs) rest x is)
 
 pub leads_on : {parents : List Parent} {i j k : ℕ} → Leads parents i j → Leads parents j k → Leads parents i k
 leads_on stay more = more
@@ -48,6 +56,24 @@ unmarked-set marks i l e =
     let f : weight (get_or marks i false) ≡ 1 = ap (λ b. weight b) e in
     let g : weight true ≡ 0 = refl in
     omega (arith, s, f, g)
+
+lighter : (old new : Bool) → (IsTrue old → IsTrue new) → weight new ≤ weight old
+lighter true true k = omega arith
+lighter true false k = absurd (false≢true (k refl))
+lighter false true k = omega arith
+lighter false false k = omega arith
+
+-- where marks are kept, no more types are without one
+pub unmarked_kept : (old new : List Bool) → length new ≡ length old → ((i : ℕ) → IsMarked old i → IsMarked new i) → unmarked new ≤ unmarked old
+unmarked_kept [] [] room kept = omega arith
+unmarked_kept [] (y ∷ ys) room kept = absurd (omega (arith, room))
+unmarked_kept (x ∷ xs) [] room kept = absurd (omega (arith, room))
+unmarked_kept (x ∷ xs) (y ∷ ys) room kept =
+    let rest = unmarked_kept xs ys (omega (arith, room)) (λ i m. kept (suc i) m) in
+    let here = lighter x y (kept 0) in
+    let a = sum_by-cons weight x xs in
+    let b = sum_by-cons weight y ys in
+    omega (arith, rest, here, a, b)
 
 -- chains lead from marked types to marked ones downwards
 pub chain_is_marked : (parents : List Parent) (marks : List Bool) → IsClosedUnder parents marks → {i j : ℕ} → Leads parents i j → IsMarked marks j → IsMarked marks i

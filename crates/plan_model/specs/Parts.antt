@@ -1,6 +1,7 @@
 -- The parts of a type as marks: the mark at place i says whether type i is one of them.
 -- Source: this project's; a part as in Typing.
-use Rattle.std.specs.Prelude.{ℕ, ◌≡◌, ◌==◌, ◌≤◌, ◌<◌, ◌||◌, ◌⊎◌, ◌↔◌, Bool, false, cond, IsTrue, All, Contains, List, length, sum_by, slice_index_or}
+use Rattle.std.specs.Prelude.{ℕ, ◌+◌, ◌≡◌, ◌==◌, ◌≤◌, ◌<◌, ◌||◌, ◌⊎◌, ◌↔◌, Bool, false, cond, IsTrue, All, Contains, List, length, sum_by, slice_index_or}
+use Rattle.htn_base.specs.Limits.{most_pddl_types}
 use Rattle.plan_model.specs.declared.types.Types.{Types}
 use Rattle.plan_model.specs.declared.types.Parent.{Parent}
 use Rattle.plan_model.specs.declared.parts.Parts.{Parts}
@@ -9,9 +10,9 @@ use Rattle.plan_model.specs.Typing.{Leads}
 abbrev pub AreListedParents : ℕ → List Parent → Type 0
 AreListedParents count parents = All (λ p. (p.child < count) × (p.parent < count)) parents
 
--- parents and unions are of listed types, of which there are few
+-- parents and unions are of listed types, which are few beside `object`
 pub record AreListed (types : Types) : Type 0 where
-  pub few : length types.names ≤ 1003
+  pub few : length types.names ≤ most_pddl_types + 1
   pub parents : AreListedParents (length types.names) types.parents
   pub unions : All (All (λ member. member < length types.names)) types.unions
 

@@ -1,4 +1,4 @@
-ghost use Rattle.std.specs.Prelude.{◌≡◌, ◌++◌, ◌∷◌, [], length, slice_get, IfOk, OnOk};
+ghost use Rattle.std.specs.Prelude.{◌≡◌, ◌++◌, ◌∷◌, [], length, slice_get, IfOk, OnOk, OnErr};
 
 use htn_base::{Memory, PackedPart, PackedRows};
 use std::alloc::Global;
@@ -80,9 +80,10 @@ impl Facts {
         })
     }
 
-    /// Puts a fact at the end. More than 4,294,967,295 objects in all want memory.
+    /// Puts a fact at the end. More than 4,294,967,295 objects in all want memory. After `Memory` the facts are as they were.
     pub fn push(&mut self, predicate: u32, args: &[u32]) -> Result<(), Memory>
         ensures pushed { OnOk result (self.new ≡ self.old ++ atom_of predicate args.now ∷ []) }
+        ensures unchanged { OnErr result (self.new ≡ self.old) }
     {
         self.rows.push(predicate, args)
     }

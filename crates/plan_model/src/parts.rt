@@ -1,4 +1,4 @@
-ghost use Rattle.std.specs.Prelude.{◌≡◌, ℕ, ◌<◌, ◌↔◌, All, IsTrue, IsFalse, length};
+ghost use Rattle.std.specs.Prelude.{◌≡◌, ℕ, ◌<◌, ◌≤◌, ◌↔◌, All, IsTrue, IsFalse, length};
 ghost use Rattle.plan_model.specs.Typing as typing;
 ghost use Rattle.plan_model.specs.Parts.{has, unmarked, AreMarkedToo, AreListed, AreListedParents, IsMarkedFurther, IsClosedUnder};
 
@@ -18,7 +18,8 @@ pub struct Parts {
 }
 
 impl Parts {
-    /// The parts of the type of this number. It takes no memory.
+    /// The parts of the type of this number. It takes no memory, and few passes over the pairs where they stand by the
+    /// child's number and have no cycle.
     pub fn new(types: &Types, of: u32) -> Parts
         requires { AreListed types.now }
         ensures { (ty : ℕ) → IsTrue (has result ty) ↔ typing.IsPart types.now ty of }
@@ -29,7 +30,10 @@ impl Parts {
             mark_all(&mut marks, members.as_slice());
         }
         let whole = marks[0];
-        while mark_children(types.parents.as_slice(), &mut marks) {}
+        let parents = types.parents.as_slice();
+        while mark_children(parents, &mut marks) {
+            climb_all(parents, &mut marks);
+        }
         Parts { of, whole, marks }
     }
 
@@ -56,6 +60,43 @@ fn mark_all(marks: &mut [bool], types: &[u32])
         let place = *ty as usize;
         if place < marks.len() {
             marks[place] = true;
+        }
+    }
+}
+
+/// Climbs from each type, and so comes to every part where the pairs stand by the child's number and have no cycle.
+fn climb_all(parents: &[Parent], marks: &mut [bool])
+    requires room { length marks.old ≡ 1024 }
+    requires listed { AreListedParents (length marks.old) parents.now }
+    ensures { IsMarkedFurther parents.now marks.old marks.new }
+{
+    let mut seen = [false; ROOM];
+    for pair in parents {
+        climb(parents, pair.child as usize, &mut seen, marks);
+    }
+}
+
+/// Marks the type where one of its parents is marked, after climbing from each of these. A type that was seen before is left
+/// as it is.
+fn climb(parents: &[Parent], ty: usize, seen: &mut [bool], marks: &mut [bool])
+    requires room { length seen.old ≡ length marks.old }
+    requires listed { AreListedParents (length marks.old) parents.now }
+    requires within { ty < length marks.old }
+    ensures further { IsMarkedFurther parents.now marks.old marks.new }
+    ensures seen { unmarked seen.new ≤ unmarked seen.old }
+{
+    if seen[ty] {
+        return;
+    }
+    seen[ty] = true;
+    let first = parents.partition_point(|pair| (pair.child as usize) < ty);
+    for pair in &parents[first..] {
+        if pair.child as usize != ty {
+            break;
+        }
+        climb(parents, pair.parent as usize, seen, marks);
+        if marks[pair.parent as usize] {
+            marks[ty] = true;
         }
     }
 }

@@ -19,3 +19,4 @@ pub mod FirstSeen
 pub mod PlanText
 pub mod SoundValue
 pub mod SoundProblem
+pub mod SoundlyCompiled

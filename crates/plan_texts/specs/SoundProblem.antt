@@ -1,8 +1,8 @@
 -- What is asked of an HDDL value that was read: one record of all that the crates above it need, cycles aside.
 -- Source: this project's; the top method has no precondition (Höller et al., "HDDL", AAAI 2020, the full syntax definition: :htn).
-use Rattle.std.specs.Prelude.{ℕ, ◌≡◌, ◌<◌, ◌≤◌, ◌^◌, List, [], ◌∷◌, map, length}
+use Rattle.std.specs.Prelude.{ℕ, ◌≡◌, ◌+◌, ◌<◌, ◌≤◌, ◌^◌, List, [], ◌∷◌, map, length}
 use Rattle.std.specs.List.{filter_map}
-use Rattle.htn_base.specs.Limits.{most_subtasks}
+use Rattle.htn_base.specs.Limits.{most_subtasks, most_pddl_types}
 use Rattle.text_forms.specs.Words.{Word}
 use Rattle.plan_texts.specs.Declared.{named}
 use Rattle.htn_base.specs.Different.{AreDifferent}
@@ -35,7 +35,7 @@ IsShort xs = length xs ≤ 2 ^ 25
 
 pub record IsWithinLimits (h : Hddl) : Type 0 where
   pub names : length h.names ≤ 2 ^ 26
-  pub types : length h.types.names ≤ 1003
+  pub types : length h.types.names ≤ most_pddl_types + 1
   pub unions : IsShort h.types.unions
   pub objects : IsShort h.objects
   pub predicates : IsShort h.predicates

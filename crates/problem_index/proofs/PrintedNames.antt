@@ -68,7 +68,7 @@ module _ (c : Compiled) where
   module _ (names : HasPrintedNames c) where
     at_other : (name : List ℕ) (k : ℕ) (plan : MethodPlan) → slice_get c.methods (suc k) ≡ Some plan → name ≡ method_by c (slice_get c.methods (suc k)) → HasWordAt table (other_names c) name k
     at_other name k plan at e =
-        at_named method_names (others c.methods) name k plan (after_top c.methods k ∙ at) (names.methods plan (contains_from c.methods (suc k) plan at)) (e ∙ ap (method_by c) at)
+        at_named method_names (others c.methods) name k plan (after_top c.methods k ∙ at) (names.methods plan (contains_from (others c.methods) k plan (after_top c.methods k ∙ at))) (e ∙ ap (method_by c) at)
 
     module _ (word : List ℕ) where
       pub start_found : word ≡ codes "htn_start" → (plan : MethodPlan) → slice_get c.methods 0 ≡ Some plan → StandsFor c word (Some (Method 0))

@@ -45,10 +45,10 @@ module _ (c : Compiled) where
   abbrev pub source_word : Name → List ℕ
   source_word name = slice_index_or c.hddl.names name.number []
 
-  -- each action and method has a name of the table, no two methods beside the top one have one word, and the top one has no check
+  -- actions and the methods beside the top one have names of the table, no two such methods have one word, and the top one has no check
   pub record HasPrintedNames : Type 0 where
     pub actions : (s : ActionSchema) → Contains c.hddl.actions s → s.name.number < length c.hddl.names
-    pub methods : (plan : MethodPlan) → Contains c.methods plan → plan.schema.name.number < length c.hddl.names
+    pub methods : (plan : MethodPlan) → Contains (others c.methods) plan → plan.schema.name.number < length c.hddl.names
     pub apart : (m n : ℕ) (p q : MethodPlan) → slice_get c.methods (suc m) ≡ Some p → slice_get c.methods (suc n) ≡ Some q → source_word p.schema.name ≡ source_word q.schema.name → m ≡ n
     pub unchecked : (plan : MethodPlan) → slice_get c.methods 0 ≡ Some plan → IsTrue plan.checked → ⊥
 

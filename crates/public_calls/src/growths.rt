@@ -61,16 +61,12 @@ fn chain(alloc: Global, count: u32) -> Result<List<Growth>, Memory> {
 
 fn grown(alloc: Global, growths: Result<List<Growth>, Memory>) -> Result<Scheduled, GrowError> {
     match growths {
-        Ok(steps) => {
-            let answer = grown_of_few(alloc, steps.as_slice());
-            drop(steps);
-            answer
-        }
+        Ok(steps) => grown_of_few(alloc, steps),
         Err(Memory) => Err(GrowError::Memory),
     }
 }
 
-fn grown_of_few(alloc: Global, steps: &[Growth]) -> Result<Scheduled, GrowError> {
+fn grown_of_few(alloc: Global, steps: List<Growth>) -> Result<Scheduled, GrowError> {
     if steps.len() > 1_000_000 {
         Err(GrowError::Memory)
     } else {

@@ -100,10 +100,10 @@ fn shown(alloc: Global) -> Option<Text> {
     let Ok(growths) = growths(alloc) else {
         return None;
     };
-    if growths.as_slice().len() > 1_000_000 {
+    if growths.len() > 1_000_000 {
         return None;
     }
-    let Ok(run) = grow(alloc, growths.as_slice()) else {
+    let Ok(run) = grow(alloc, growths) else {
         return None;
     };
     let Ok(plan) = show(alloc, &compiled, &run) else {

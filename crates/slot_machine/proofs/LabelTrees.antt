@@ -1,7 +1,7 @@
 -- The tree of a label, whose children are open leaves.
-use Rattle.std.proofs.Common.{ℕ, zero, suc, ◌≡◌, ◌<◌, [], ◌∷◌, length, Some, None, option_map, option_and_then, refl, ap, sym, subst, ◌∙◌, arith}
-use Rattle.plan_model.specs.task_networks.Net.{Net, count}
-use Rattle.plan_model.specs.task_networks.Tree.{Label, Tree, waits, open_leaf, ran, done, used, split, at, label, work_of, IsGrown, IsTaken, Address, label_at, child_at, Trees, works_of, none, more, IsAddress, children_of}
+use Rattle.std.proofs.Common.{ℕ, ◌≡◌, [], ◌∷◌, Some, None, option_map, option_and_then, refl, ap, sym, subst, ◌∙◌}
+use Rattle.plan_model.specs.task_networks.Net.{Net}
+use Rattle.plan_model.specs.task_networks.Tree.{Label, Tree, waits, open_leaf, ran, done, used, split, at, label, work_of, IsGrown, IsTaken, Address, label_at, child_at, children_of}
 use Rattle.plan_model.proofs.task_networks.Nodes.{child_below, grown_at}
 use Rattle.plan_model.proofs.task_networks.Parents.{split_at}
 use Rattle.slot_machine.proofs.Growth.{leaves, grow, works-leaves, leaves_grown, IsFresh, done_fresh, split_fresh, IsGrowth, shrink, done_at, leaves_from_labels}

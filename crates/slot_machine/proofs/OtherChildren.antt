@@ -1,15 +1,15 @@
 -- The children other than the heir, and the slots of all children.
-use Rattle.std.proofs.Common.{ℕ, zero, suc, ◌≡◌, ◌≢◌, ◌+◌, ◌<◌, ◌↔◌, inl, inr, List, [], ◌∷◌, length, slice_index, slice_get, map, filter, Option, Some, None, true, false, not, cond, ◌==◌, refl, ap, sym, subst, ◌∙◌, Contains, arith, eq-eqb}
+use Rattle.std.proofs.Common.{ℕ, zero, suc, ◌≡◌, ◌+◌, ◌<◌, ◌↔◌, inl, inr, List, [], ◌∷◌, length, slice_index, slice_get, map, filter, Option, Some, None, true, false, not, cond, ◌==◌, refl, ap, sym, subst, ◌∙◌, Contains, arith}
 use Rattle.std.proofs.lemmas.List.{length-map, nil_from_length}
 use Rattle.std.proofs.lemmas.Option.{slice_get_within}
 use Rattle.std.proofs.Math.Decide.{ℕ_discrete}
 use Rattle.plan_model.specs.task_networks.Net.{Net, count}
 use Rattle.plan_model.specs.task_networks.Lawful.{IsLawful}
 use Rattle.htn_base.specs.Different.{AreDifferent}
-use Rattle.plan_model.specs.task_networks.Spelling.{numbers, is_heir, others}
+use Rattle.plan_model.specs.task_networks.Spelling.{numbers, others}
 use Rattle.plan_model.proofs.task_networks.OtherChildren.{rest_of}
 use Rattle.plan_model.proofs.task_networks.Lists.{Contains-later, not-in_empty, head_or_tail, Contains-here}
-use Rattle.plan_model.proofs.task_networks.Numbers.{length-numbers, numbers_to, to_numbers, different-numbers}
+use Rattle.plan_model.proofs.task_networks.Numbers.{length-numbers}
 use Rattle.slot_machine.specs.Machine.{insert_at, with_heir}
 use Rattle.slot_machine.proofs.Inserts.{length-insert_at, insert_same}
 

@@ -1,9 +1,8 @@
 -- Slots that aren't used, and places in a list of slots.
-use Rattle.std.proofs.Common.{ℕ, zero, suc, ◌≡◌, ◌+◌, ◌<◌, ◌≤◌, inl, inr, List, [], ◌∷◌, ◌++◌, length, slice_index, refl, ap, sym, subst, Contains, arith}
-use Rattle.std.proofs.Math.Decide.{ℕ_discrete}
+use Rattle.std.proofs.Common.{ℕ, zero, suc, ◌≡◌, ◌+◌, ◌<◌, ◌≤◌, inl, inr, List, [], ◌∷◌, length, slice_index, refl, ap, sym, subst, Contains, arith}
 use Rattle.htn_base.specs.Different.{AreDifferent}
 use Rattle.plan_model.proofs.task_networks.Unused.{one_unused}
-use Rattle.plan_model.proofs.task_networks.Lists.{not-in_empty, Contains-later, head_or_tail, cut_at, Contains-here}
+use Rattle.plan_model.proofs.task_networks.Lists.{not-in_empty, Contains-later, head_or_tail, Contains-here}
 
 pub unused : (k b : ℕ) (xs : List ℕ) → k + length xs ≤ b → (hs : List ℕ) × (length hs ≡ k) × AreDifferent hs × ((x : ℕ) → Contains hs x → (1 ≤ x) × (x ≤ b) × (Contains xs x → ⊥))
 unused zero b xs h = ([], refl, tt, λ x c. absurd (not-in_empty x c))

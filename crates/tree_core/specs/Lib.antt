@@ -3,5 +3,6 @@ pub mod Growths
 pub mod Labels
 pub mod Nodes
 pub mod Runs
+pub mod LaidOut
 pub mod Growing
 pub mod Laws

@@ -1,4 +1,5 @@
 ghost use Rattle.std.specs.Prelude.{◌≡◌, ◌≤◌, length, IfOk};
+ghost use Rattle.htn_base.specs.Limits.{most_steps};
 ghost use Rattle.tree_core.specs.Labels.{growths_of};
 ghost use Rattle.tree_core.specs.Growing.{found, AreChildren};
 
@@ -21,7 +22,7 @@ impl Drop for Children {
 impl Children {
     // The children that the growths give.
     pub(crate) fn of(alloc: Global, steps: &[Growth]) -> Result<Children, Memory>
-        requires { length steps.now ≤ 1000000 }
+        requires { length steps.now ≤ most_steps }
         ensures children { IfOk result (λ children. AreChildren (growths_of steps.now) children) }
     {
         let mut children = Children {

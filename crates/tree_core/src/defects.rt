@@ -1,4 +1,5 @@
 ghost use Rattle.std.specs.Prelude.{◌≡◌, ◌<◌, ◌≤◌, ◌↔◌, Some, length, IsTrue};
+ghost use Rattle.htn_base.specs.Limits.{most_steps};
 ghost use Rattle.plan_model.specs.task_networks.Tree.{used};
 ghost use Rattle.tree_core.specs.Labels.{growths_of, label_of, Decomposition};
 ghost use Rattle.tree_core.specs.Growing.{found, AreChildren, IsLeast, least_of};
@@ -9,7 +10,7 @@ use crate::label::Label;
 
 // The first place at which something is wrong with the growths, or `None` where they are joined.
 pub(crate) fn first_defect(steps: &[Growth], children: &Children) -> Option<u32>
-    requires few { length steps.now ≤ 1000000 }
+    requires few { length steps.now ≤ most_steps }
     requires children { AreChildren (growths_of steps.now) children.now }
     ensures { IsLeast (growths_of steps.now) (λ l. l < length steps.now) result }
 {
@@ -22,7 +23,7 @@ pub(crate) fn first_defect(steps: &[Growth], children: &Children) -> Option<u32>
 
 // The first place at which the growth shows that something is wrong.
 fn defect_at(steps: &[Growth], children: &Children, place: usize) -> Option<u32>
-    requires few { length steps.now ≤ 1000000 }
+    requires few { length steps.now ≤ most_steps }
     requires children { AreChildren (growths_of steps.now) children.now }
     requires place { place < length steps.now }
     ensures { IsLeast (growths_of steps.now) (λ l. l ≡ place) result }

@@ -1,5 +1,6 @@
 ghost use Rattle.std.specs.Prelude.{◌≡◌, ◌<◌, ◌≤◌, ◌+◌, length, IfOk};
 ghost use Rattle.std.specs.Prelude.{slice_get, Some};
+ghost use Rattle.htn_base.specs.Limits.{most_steps};
 ghost use Rattle.tree_core.specs.Tables.{Row, table};
 ghost use Rattle.tree_core.specs.Labels.{labels};
 ghost use Rattle.tree_core.specs.Growing.{OfParents, AreEnds, AreLater};
@@ -9,7 +10,7 @@ use std::alloc::Global;
 
 // The place after the subtree of each node, of nodes in preorder of which each has its parent's place.
 pub(crate) fn ends_of(alloc: Global, parents: &[Option<u32>]) -> Result<Vec<u32>, Memory>
-    requires few { length parents.now ≤ 1000000 }
+    requires few { length parents.now ≤ most_steps }
     ensures ends { IfOk result (λ ends. OfParents parents.now (AreEnds 0 ends.items)) }
     ensures many { IfOk result (λ ends. length ends.items ≡ length parents.now) }
 {
@@ -23,7 +24,7 @@ pub(crate) fn ends_of(alloc: Global, parents: &[Option<u32>]) -> Result<Vec<u32>
 
 // The place after the subtree of the node: behind its last child, if it has any.
 fn end_of(parents: &[Option<u32>], ends: &[u32], place: usize) -> u32
-    requires few { length parents.now ≤ 1000000 }
+    requires few { length parents.now ≤ most_steps }
     requires many { length ends.now ≡ length parents.now }
     requires place { place < length parents.now }
     requires later { AreLater (length parents.now) (place + 1) ends.now }

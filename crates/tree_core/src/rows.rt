@@ -1,11 +1,13 @@
 ghost use Rattle.std.specs.Prelude.{◌≡◌, ◌≤◌, length, IfOk};
+ghost use Rattle.htn_base.specs.Limits.{most_steps};
 ghost use Rattle.tree_core.specs.Tables.{table};
 ghost use Rattle.tree_core.specs.Labels.{labels, growths_of};
 ghost use Rattle.tree_core.specs.Growths.{AreJoined};
+ghost use Rattle.tree_core.specs.Nodes.{rows_of, AreNodesOf};
 ghost use Rattle.tree_core.specs.Growing.{OfTree, AreNodes, AreBelow, ArePlaces, AreParents, AreEnds};
 
 use crate::growth::Growth;
-use crate::tree::{Node, Tree};
+use crate::tree::Node;
 use htn_base::{List, Memory};
 use std::alloc::Global;
 
@@ -36,25 +38,26 @@ pub(crate) fn parents_of(
     Ok(parents)
 }
 
-// The tree of the nodes in preorder, with the place of each one's parent, and where its subtree ends.
-pub(crate) fn tree_of(
+// The nodes in preorder, with the place of each one's parent, and where its subtree ends.
+pub(crate) fn nodes_of(
     alloc: Global,
     steps: &[Growth],
     nodes: &[u32],
     parents: &[Option<u32>],
     ends: &[u32],
-) -> Result<Tree, Memory>
-    requires few { length nodes.now ≤ 1000000 }
+) -> Result<List<Node>, Memory>
+    requires few { length nodes.now ≤ most_steps }
     requires below { AreBelow (length steps.now) nodes.now }
     requires nodes { OfTree (growths_of steps.now) (AreNodes (length steps.now) nodes.now) }
     requires many { length parents.now ≡ length nodes.now }
     requires ends_many { length ends.now ≡ length nodes.now }
     requires parents { OfTree (growths_of steps.now) (λ tree order. AreParents parents.now tree) }
     requires ends { OfTree (growths_of steps.now) (λ tree order. AreEnds 0 ends.now tree) }
-    ensures rows { IfOk result (λ rows.
-        OfTree (growths_of steps.now) (λ tree order. rows ≡ table labels tree)) }
+    ensures nodes { IfOk result (AreNodesOf steps.now) }
+    ensures rows { IfOk result (λ kept.
+        OfTree (growths_of steps.now) (λ tree order. rows_of steps.now kept ≡ table labels tree)) }
 {
-    let mut rows = List::with_room(alloc, nodes.len())?;
+    let mut kept = List::with_room(alloc, nodes.len())?;
     for (place, node) in nodes.iter().enumerate() {
         let growth = &steps[*node as usize];
         let parent = parents[place];
@@ -62,14 +65,14 @@ pub(crate) fn tree_of(
             Some(_) => growth.child,
             None => 0,
         };
-        rows.push(Node {
-            label: growth.label.copy(alloc)?,
+        kept.push(Node {
+            growth: *node,
             parent,
             number,
             end: ends[place],
         })?;
     }
-    Ok(Tree { nodes: rows })
+    Ok(kept)
 }
 
 // The numbers as a list.

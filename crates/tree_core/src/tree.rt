@@ -3,42 +3,19 @@ ghost use Rattle.std.specs.Option.{option_copied};
 ghost use Rattle.tree_core.specs.Labels.{label_of};
 ghost use Rattle.tree_core.specs.Runs.{label_in, parent_in, number_in, end_in};
 
+use crate::growth::Growth;
 use crate::label::Label;
 use htn_base::{List, Memory};
 use std::alloc::Global;
 use std::marker::Model;
 
-// A node: its label, the address of its parent, its child number, and the address after its subtree.
+// A node: the place of its growth, the address of its parent, its child number, and the address after its subtree.
+#[derive(Clone, Copy)]
 pub(crate) struct Node {
-    pub(crate) label: Label,
+    pub(crate) growth: u32,
     pub(crate) parent: Option<u32>,
     pub(crate) number: u32,
     pub(crate) end: u32,
-}
-
-impl Drop for Node {
-    fn drop(self) {
-        let Node {
-            label: _,
-            parent: _,
-            number: _,
-            end: _,
-        } = self;
-    }
-}
-
-impl Node {
-    // An equal node.
-    fn copy(&self, alloc: Global) -> Result<Node, Memory>
-        ensures equal { IfOk result (λ copy. copy ≡ self.now) }
-    {
-        Ok(Node {
-            label: self.label.copy(alloc)?,
-            parent: self.parent,
-            number: self.number,
-            end: self.end,
-        })
-    }
 }
 
 /// A tree by its nodes in preorder. A node's address is its place, from 0. The first child of a node is at the next address,
@@ -46,26 +23,31 @@ impl Node {
 ///
 /// Contracts see the list of the rows.
 pub struct Tree {
+    // in the order in which they came: each has the label of its node
+    pub(crate) growths: List<Growth>,
     pub(crate) nodes: List<Node>,
 }
 
 impl Drop for Tree {
     fn drop(self) {
-        let Tree { nodes: _ } = self;
+        let Tree {
+            growths: _,
+            nodes: _,
+        } = self;
     }
 }
 
 impl Model for Tree {
-    ghost use Rattle.std.specs.Prelude.{List, ◌<◌, ◌^◌, length};
+    ghost use Rattle.std.specs.Prelude.{List};
     ghost use Rattle.tree_core.specs.Tables.{Row};
     ghost use Rattle.tree_core.specs.Labels.{labels};
-    ghost use Rattle.tree_core.specs.Nodes.{rows_of};
+    ghost use Rattle.tree_core.specs.Nodes.{rows_of, AreNodesOf};
 
     ghost Value = { List (Row labels) };
 
-    ghost view = { λ tree. rows_of tree.nodes };
+    ghost view = { λ tree. rows_of tree.growths tree.nodes };
 
-    ghost invariant = { λ tree. length tree.nodes < 2 ^ 32 };
+    ghost invariant = { λ tree. AreNodesOf tree.growths tree.nodes };
 }
 
 impl Tree {
@@ -80,7 +62,8 @@ impl Tree {
     pub fn label(&self, address: u32) -> Option<&Label>
         ensures label { option_map label_of (option_copied result) ≡ label_in self.now address }
     {
-        Some(&self.nodes.get(address as usize)?.label)
+        let node = self.nodes.get(address as usize)?;
+        Some(&self.growths.get(node.growth as usize)?.label)
     }
 
     /// The address of the node's parent, or `None` where the address is 0 or at least the size.
@@ -110,10 +93,13 @@ impl Tree {
     pub fn copy(&self, alloc: Global) -> Result<Tree, Memory>
         ensures equal { IfOk result (λ copy. copy ≡ self.now) }
     {
-        let mut nodes = List::with_room(alloc, self.nodes.len())?;
-        for node in self.nodes.as_slice() {
-            nodes.put(node.copy(alloc))?;
+        let mut growths = List::with_room(alloc, self.growths.len())?;
+        for growth in self.growths.as_slice() {
+            growths.put(growth.copy(alloc))?;
         }
-        Ok(Tree { nodes })
+        Ok(Tree {
+            growths,
+            nodes: self.nodes.copy(alloc)?,
+        })
     }
 }

@@ -1,4 +1,5 @@
 ghost use Rattle.std.specs.Prelude.{ℕ, ◌≡◌, ◌<◌, ◌≤◌, ◌+◌, suc, Some, length, slice_get, IfOk, IfSome};
+ghost use Rattle.htn_base.specs.Limits.{most_steps};
 ghost use Rattle.tree_core.specs.Labels.{labels, growths_of};
 ghost use Rattle.tree_core.specs.Growths.{AreJoined};
 ghost use Rattle.tree_core.specs.Growing.{AreChildren, OfTree, IsPlaced, EndsAt, IsNodeAt, AreNodes, AreBelow, ArePlaces};
@@ -14,7 +15,7 @@ pub(crate) fn in_preorder(
     steps: &[Growth],
     children: &Children,
 ) -> Result<Vec<u32>, Memory>
-    requires few { length steps.now ≤ 1000000 }
+    requires few { length steps.now ≤ most_steps }
     requires joined { AreJoined labels (growths_of steps.now) }
     requires children { AreChildren (growths_of steps.now) children.now }
     ensures many { IfOk result (λ nodes. length nodes.items ≡ length steps.now) }
@@ -70,7 +71,7 @@ fn after_subtree(steps: &[Growth], children: &Children, place: usize) -> Option<
 
 // The place at which each of the numbers stands.
 pub(crate) fn places_of(alloc: Global, nodes: &[u32]) -> Result<Vec<u32>, Memory>
-    requires few { length nodes.now ≤ 1000000 }
+    requires few { length nodes.now ≤ most_steps }
     requires below { AreBelow (length nodes.now) nodes.now }
     ensures many { IfOk result (λ places. length places.items ≡ length nodes.now) }
     ensures places { IfOk result (λ places. ArePlaces (length nodes.now) nodes.now places.items) }

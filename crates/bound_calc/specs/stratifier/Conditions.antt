@@ -1,6 +1,7 @@
 -- What is asked of a compiled problem: tasks are numbered, sizes are small, and networks have no cycle.
 -- Source: this project's.
-use Rattle.std.specs.Prelude.{ℕ, ◌<◌, ◌≤◌, ◌^◌, length, All}
+use Rattle.std.specs.Prelude.{ℕ, ◌+◌, ◌<◌, ◌≤◌, ◌^◌, length, All}
+use Rattle.htn_base.specs.Limits.{most_subtasks}
 use Rattle.plan_model.specs.declared.schemas.MethodPlan.{MethodPlan}
 use Rattle.plan_model.specs.declared.values.Compiled.{Compiled}
 use Rattle.plan_model.specs.Pairs.{Pairs}
@@ -14,9 +15,9 @@ pub record IsNumbered (top : ℕ) (plan : MethodPlan) : Type 0 where
   pub task : plan.schema.task ≤ top
   pub subtasks : (t : ℕ) → IsSubtask plan.schema.children t → t ≤ top
 
--- at most 4,096 subtasks and the check
+-- the subtasks, as many as there may be, and the check
 pub record IsSmallMethod (plan : MethodPlan) : Type 0 where
-  pub children : length plan.schema.children ≤ 4097
+  pub children : length plan.schema.children ≤ most_subtasks + 1
   pub pairs : length plan.schema.pairs < 2 ^ 32
 
 pub record IsSmallCompiled (c : Compiled) : Type 0 where

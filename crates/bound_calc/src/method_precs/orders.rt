@@ -1,4 +1,5 @@
-ghost use Rattle.std.specs.Prelude.{◌≡◌, ◌≤◌, ◌<◌, ◌^◌, IfOk, length};
+ghost use Rattle.std.specs.Prelude.{◌≡◌, ◌+◌, ◌≤◌, ◌<◌, ◌^◌, IfOk, length};
+ghost use Rattle.htn_base.specs.Limits.{most_subtasks};
 ghost use Rattle.plan_model.specs.task_networks.Order.{IsAcyclic};
 ghost use Rattle.plan_model.specs.Pairs.{Pairs};
 ghost use Rattle.plan_model.specs.net_order.Meaning.{AreBelow};
@@ -29,7 +30,7 @@ impl Drop for Ordered {
 impl Ordered {
     /// The line of so many children, its last child, and the other maximal ones.
     pub fn new(alloc: Global, count: u32, pairs: &[Pair]) -> Result<Ordered, Memory>
-        requires small { count ≤ 4097 }
+        requires small { count ≤ most_subtasks + 1 }
         requires within { AreBelow count pairs.now }
         requires few { length pairs.now < 2 ^ 32 }
         requires acyclic { IsAcyclic (Pairs pairs.now) }

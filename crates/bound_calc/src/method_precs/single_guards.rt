@@ -5,13 +5,13 @@ ghost use Rattle.bound_calc.specs.method_precs.Keys.{key};
 use htn_base::{List, Memory};
 use plan_model::{Guard, Term};
 use std::alloc::Global;
-use std::collections::HashSet;
+use std::collections::BTreeSet;
 
-/// Each guard at its first place alone.
+/// Each guard at its first place alone. Guards that were met are found by an order, in no more steps whatever a text has.
 pub fn single_guards(alloc: Global, guards: &[Guard]) -> Result<List<Guard>, Memory>
     ensures { IfOk result (λ single. single ≡ spec.once spec.same_guard guards.now) }
 {
-    let mut seen = HashSet::new(alloc);
+    let mut seen = BTreeSet::new(alloc);
     let mut single = List::new(alloc);
     for guard in guards {
         if seen.insert(key_of(guard))? {

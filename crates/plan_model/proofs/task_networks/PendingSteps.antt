@@ -1,8 +1,8 @@
 -- What is pending before and after one more node is taken.
-use Rattle.std.proofs.Common.{ℕ, ◌≡◌, ◌≢◌, ◌<◌, ◌⊎◌, ◌↔◌, inl, inr, List, [], ◌∷◌, ◌++◌, length, Some, ap, sym, subst, ◌∙◌, Contains, append_assoc, arith}
+use Rattle.std.proofs.Common.{ℕ, ◌≡◌, ◌≢◌, ◌<◌, inl, inr, List, [], ◌∷◌, ◌++◌, length, Some, ap, sym, subst, ◌∙◌, Contains, append_assoc, arith}
 use Rattle.std.proofs.lemmas.List.Elements.{Contains-push, Contains-push_cases, Contains-append_left}
 use Rattle.plan_model.specs.task_networks.Net.{Net, count}
-use Rattle.plan_model.specs.task_networks.Tree.{Tree, Label, Address, used, label_at, IsAddress, IsGrown}
+use Rattle.plan_model.specs.task_networks.Tree.{Tree, Address, used, label_at, IsGrown}
 use Rattle.plan_model.specs.task_networks.Schedule.{IsBegun, IsSchedule}
 use Rattle.plan_model.specs.task_networks.Pending.{IsPending}
 use Rattle.plan_model.proofs.task_networks.Lists.{cut_at}

@@ -5,7 +5,7 @@ use Rattle.htn_base.specs.Different.{AreDifferent}
 use Rattle.plan_model.specs.task_networks.Laws.{RankedIsTailRecursive, NamedCycleIsTheOnlyOne}
 use Rattle.plan_model.specs.task_networks.Strata.{IsLawfulRanking, IsWalk, ComesFirst}
 use Rattle.plan_model.proofs.task_networks.Different.{different_without}
-use Rattle.plan_model.proofs.task_networks.Lists.{Contains-later, not-in_empty, head_or_tail}
+use Rattle.plan_model.proofs.task_networks.Lists.{cuts, Contains-here, Contains-later, not-in_empty, head_or_tail}
 
 module _ {Task Edge : Type 0} (source target : Edge → Task) (edges : List Edge) (IsBad : Edge → Type 0) where
   not_up : (rank : Task → ℕ) → IsLawfulRanking source target edges IsBad rank → (x y : Task) (walk : List Edge) → IsWalk source target edges x walk y → rank y ≤ rank x
@@ -20,20 +20,15 @@ module _ {Task Edge : Type 0} (source target : Edge → Task) (edges : List Edge
       let h = not_up rank lawful (target e) (source e) walk w in
       elim (lawful e c) [ inl l ↦ omega arith | inr l ↦ l.0 bad ]
 
--- two cuts of a list before an element
+-- two cuts of a list before an element: they are one, or one element stands in the other's first part
 two_cuts : {A : Type 0} (xs : List A) (x : A) (ys zs : List A) (y : A) (ws : List A) → xs ++ x ∷ ys ≡ zs ++ y ∷ ws → ((xs ≡ zs) × (x ≡ y)) ⊎ (Contains zs x ⊎ Contains xs y)
-two_cuts [] x ys [] y ws e = inl (refl, cc)
-two_cuts [] x ys (z ∷ zs) y ws e = inr (inl (0, omega arith, (let f : z ≡ x = cc in f)))
-two_cuts (a ∷ xs) x ys [] y ws e = inr (inr (0, omega arith, (let f : a ≡ y = cc in f)))
-two_cuts {A = A} (a ∷ xs) x ys (z ∷ zs) y ws e = go (two_cuts xs x ys zs y ws cc)
+two_cuts {A = A} xs x ys zs y ws e = elim (cuts xs x ys zs y ws e) [
+  | inl h ↦ inl h
+  | inr t ↦ inr (elim t [ inl h ↦ inl (goes_on xs x h.0 zs h.1) | inr h ↦ inr (goes_on zs y h.0 xs h.1) ])
+]
   where
-    f : a ≡ z
-    f = cc
-
-    go : ((xs ≡ zs) × (x ≡ y)) ⊎ (Contains zs x ⊎ Contains xs y) → ((a ∷ xs ≡ z ∷ zs) × (x ≡ y)) ⊎ (Contains (z ∷ zs) x ⊎ Contains (a ∷ xs) y)
-    go (inl h) = inl (let g = h.0 in cc, h.1)
-    go (inr (inl c)) = inr (inl (Contains-later z zs x c))
-    go (inr (inr c)) = inr (inr (Contains-later a xs y c))
+    goes_on : (before : List A) (z : A) (after whole : List A) → whole ≡ before ++ z ∷ after → Contains whole z
+    goes_on before z after whole f = subst (λ l. Contains l z) (sym f) (Contains-append_right before (z ∷ after) z (Contains-here z after))
 
 -- what is in the first part of different elements isn't in the second
 apart : {A : Type 0} (xs ys : List A) (x : A) → AreDifferent (xs ++ ys) → Contains xs x → Contains ys x → ⊥

@@ -1,4 +1,5 @@
-ghost use Rattle.std.specs.Prelude.{◌≡◌, ◌<◌, ◌≤◌, ◌^◌, length, IfOk, IfErr};
+ghost use Rattle.std.specs.Prelude.{◌≡◌, ◌+◌, ◌<◌, ◌≤◌, ◌^◌, length, IfOk, IfErr};
+ghost use Rattle.htn_base.specs.Limits.{most_subtasks};
 
 use crate::Pair;
 use crate::net_order::child_set::ChildSet;
@@ -75,9 +76,10 @@ impl Order {
     ghost use Rattle.plan_model.specs.net_order.Answers as spec;
     ghost use Rattle.plan_model.specs.net_order.Meaning.{AreBelow, IsOrderOf, IsRefusedBy};
 
-    /// The order that the pairs generate on `n` children. It takes memory for n² bits and some lists.
+    /// The order that the pairs generate on `n` children, which are subtasks and a check at most. It takes memory for n² bits
+    /// and some lists.
     pub fn new(alloc: Global, n: u32, pairs: &[Pair]) -> Result<Order, OrderError>
-        requires small { n ≤ 4097 }
+        requires small { n ≤ most_subtasks + 1 }
         requires below { AreBelow n pairs.now }
         requires few { length pairs.now < 2 ^ 32 }
         ensures order { IfOk result (IsOrderOf n pairs.now) }

@@ -1,5 +1,4 @@
-use Rattle.std.proofs.Common.{subst, List}
-use Rattle.plan_model.specs.declared.terms.Param.{Param}
+use Rattle.std.proofs.Common.{subst}
 use Rattle.plan_model.specs.declared.schemas.MethodPlan.{MethodPlan}
 use Rattle.ground_state.specs.Needs.{HasRoomWithin, IsEnoughWithin}
 use Rattle.ground_state.proofs.NeedLaws as laws

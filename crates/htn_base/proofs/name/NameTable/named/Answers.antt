@@ -1,6 +1,6 @@
-use Rattle.std.proofs.Common.{◌≡◌, [], ◌∷◌, ◌++◌, length, Some, None, refl, sym, ap, subst, ◌∙◌}
-use Rattle.htn_base.specs.Table.{number_of, with_word, IsKept}
-use Rattle.htn_base.proofs.KeptLemmas.{still_kept, next_kept}
+use Rattle.std.proofs.Common.{◌≡◌, [], ◌∷◌, ◌++◌, length, Some, None, refl, sym, ap, ◌∙◌}
+use Rattle.htn_base.specs.Table.{number_of, with_word}
+use Rattle.htn_base.proofs.KeptLemmas.{table-still, table-next}
 use Rattle.htn_base.proofs.TableLemmas.{known-same, with-new, number-last}
 use Rattle.htn_base.proofs.name.NameTable.named.Goals as goal
 use Rattle.htn_base.proofs.name.NameTable.named.Goals.{In_ok-push}
@@ -14,24 +14,22 @@ returns-in-Some-clause-words c =
 pub invariant_of-self : goal.invariant_of-self
 invariant_of-self c =
     let table = c.self.inside in
-    let new = ap (λ words. number_of words c.args.word.now) c.self.view_is ∙ sym c.in_default.ensures.number in
-    still_kept table.first c.keep.new.first table.others c.keep.new.others table.words c.args.word.now c.self.invariant c.keep.ensures.before new table.words refl
+    let none = ap (λ words. number_of words c.args.word.now) c.self.view_is ∙ sym c.in_default.ensures.number in
+    table-still table.index c.keep.new.index table.words c.args.word.now c.self.invariant c.keep.ensures.before none table.words refl
 
 pub invariant_of-self-in_err-push : goal.invariant_of-self-in_err-push
 invariant_of-self-in_err-push c =
     let table = c.self.inside in
-    let new = ap (λ words. number_of words c.args.word.now) c.self.view_is ∙ sym c.in_default.ensures.number in
-    still_kept table.first c.keep.new.first table.others c.keep.new.others table.words c.args.word.now c.self.invariant c.keep.ensures.before new
+    let none = ap (λ words. number_of words c.args.word.now) c.self.view_is ∙ sym c.in_default.ensures.number in
+    table-still table.index c.keep.new.index table.words c.args.word.now c.self.invariant c.keep.ensures.before none
     c.push.new.self c.in_err-push.ensures.unchanged
 
 pub invariant_of-self-2 : goal.invariant_of-self-2
 invariant_of-self-2 c =
     let table = c.self.inside in
-    let word = c.args.word.now in
-    let new = ap (λ words. number_of words word) c.self.view_is ∙ sym c.in_default.ensures.number in
-    let kept = subst (λ n. IsKept c.keep.new.first c.keep.new.others word n) c.len-number.ensures.length c.in_ok-keep.ensures.kept in
-    next_kept table.first c.keep.new.first table.others c.keep.new.others table.words word c.self.invariant c.keep.ensures.before new
-    c.push.new.self c.push.result kept c.push.ensures.pushed c.push.ensures.unchanged c.push.ensures.sound
+    let none = ap (λ words. number_of words c.args.word.now) c.self.view_is ∙ sym c.in_default.ensures.number in
+    table-next table.index c.keep.new.index table.words c.args.word.now c.self.invariant c.keep.ensures.before none
+    c.push.new.self c.push.result c.in_ok-keep.ensures.kept c.push.ensures.pushed c.push.ensures.unchanged c.push.ensures.sound
 
 module _ (c : In_ok-push) where
   new : number_of c.args.self.now c.args.word.now ≡ None

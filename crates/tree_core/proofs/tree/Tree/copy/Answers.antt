@@ -1,10 +1,8 @@
-use Rattle.std.proofs.Common.{length, ap, arith, length-take}
+use Rattle.std.proofs.Common.{◌∙◌, take_all}
 use Rattle.tree_core.proofs.tree.Tree.copy.Goals as goal
 
 pub invariant_of-result : goal.invariant_of-result
 invariant_of-result c =
-    let e = length-take c.loop-node.node-index c.as_slice-node-items.result.now in
-    let i = ap length c.loop-node.invariant in
-    let n = ap length c.as_slice-node-items.ensures.items in
-    let b = c.self.invariant in
-    omega arith
+    let items = c.as_slice-growth-items.result.now in
+    let all = c.loop-growth.invariant ∙ take_all c.loop-growth.growth-index items c.loop-growth-test.false ∙ c.as_slice-growth-items.ensures.items in
+    rw (all, c.in_ok-copy.ensures.equal) c.self.invariant

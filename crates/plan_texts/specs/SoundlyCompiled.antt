@@ -1,4 +1,4 @@
--- What is asked of a compiled problem whose bound is computed.
+-- What is asked of a compiled problem whose bound is computed, or whose plans are decoded.
 -- Source: this project's.
 use Rattle.plan_model.specs.declared.options.Checks.{Checks}
 use Rattle.plan_model.specs.declared.values.Hddl.{Hddl}

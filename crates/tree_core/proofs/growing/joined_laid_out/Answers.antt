@@ -6,13 +6,13 @@ use Rattle.tree_core.specs.Growing.{OfTree, AreNodes, ArePlaces}
 use Rattle.tree_core.specs.Runs.{AreAt}
 use Rattle.tree_core.proofs.Built.{built}
 use Rattle.tree_core.proofs.Columns.{are_at, order_place}
-use Rattle.tree_core.proofs.growing.scheduled.Goals as goal
+use Rattle.tree_core.proofs.growing.joined_laid_out.Goals as goal
 
 pub parents_of-requires-clause-nodes : goal.parents_of-requires-clause-nodes
 parents_of-requires-clause-nodes c = subst (λ xs. OfTree (growths_of c.args.steps.now) (AreNodes (length c.args.steps.now) xs)) (sym c.as_slice-2.ensures.value) c.in_ok-nodes.ensures.nodes
 
-pub tree_of-requires-clause-nodes : goal.tree_of-requires-clause-nodes
-tree_of-requires-clause-nodes c = subst (λ xs. OfTree (growths_of c.args.steps.now) (AreNodes (length c.args.steps.now) xs)) (sym c.as_slice-5.ensures.value) c.in_ok-nodes.ensures.nodes
+pub nodes_of-requires-clause-nodes : goal.nodes_of-requires-clause-nodes
+nodes_of-requires-clause-nodes c = subst (λ xs. OfTree (growths_of c.args.steps.now) (AreNodes (length c.args.steps.now) xs)) (sym c.as_slice-5.ensures.value) c.in_ok-nodes.ensures.nodes
 
 pub returns : goal.returns
 returns c =
@@ -26,9 +26,12 @@ returns c =
     let long : length places ≡ length order = c.in_ok-places.ensures.many ∙ ap length c.as_slice.ensures.value ∙ are.0 ∙ sym s.growths_are.many in
     let list = c.in_ok-order.ensures.equal ∙ c.as_slice-8.ensures.value in
     record {
-      tree = tree;
-      order = order;
-      grown = s;
-      rows = c.in_ok-tree.ensures.rows tree order s;
-      places = subst (λ xs. AreAt (preorder labels tree) xs order) (sym list) (are_at places (preorder labels tree) order long (order_place gs tree order s nodes are places ps));
+      nodes_are = c.in_ok-nodes-2.ensures.nodes;
+      run = record {
+        tree = tree;
+        order = order;
+        grown = s;
+        rows = c.in_ok-nodes-2.ensures.rows tree order s;
+        places = subst (λ xs. AreAt (preorder labels tree) xs order) (sym list) (are_at places (preorder labels tree) order long (order_place gs tree order s nodes are places ps));
+      };
     }
