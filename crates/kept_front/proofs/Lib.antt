@@ -5,3 +5,7 @@ pub mod Lowering
 pub mod Walking
 pub mod Planting
 pub mod Taking
+pub mod SoundPairs
+pub mod Told
+pub mod Holding
+pub mod AllLater

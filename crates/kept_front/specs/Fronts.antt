@@ -52,6 +52,10 @@ module _ (c : Compiled) where
   abbrev pub growths_in : Front → List (Growth (network c))
   growths_in front = map growth_in front.growths
 
+  -- what stands at an open leaf
+  abbrev pub work_at : Front → Leaf → Work
+  work_at front leaf = work_under (growths_in front) leaf.parent leaf.child
+
   abbrev pub kept : Front → Kept (network c)
   kept front = record {
     growths = growths_in front;

@@ -1,10 +1,11 @@
 -- The children that a child comes right before.
 -- Source: this project's.
-use Rattle.std.specs.Prelude.{ℕ, ◌≡◌, ◌==◌, List, [], length, map, filter, get_or, slice_get, Some}
+use Rattle.std.specs.Prelude.{ℕ, ◌≡◌, ◌==◌, ◌<◌, ◌^◌, List, [], length, map, filter, get_or, slice_get, Some}
 use Rattle.htn_base.specs.Different.{AreDifferent}
 use Rattle.plan_model.specs.declared.networks.Pair.{Pair}
 use Rattle.plan_model.specs.declared.schemas.MethodPlan.{MethodPlan}
 use Rattle.plan_model.specs.declared.values.Compiled.{Compiled}
+use Rattle.plan_model.specs.net_order.Meaning.{AreBelow}
 use Rattle.kept_front.specs.declared.later.Later.{Later}
 
 -- those of the pairs that begin with the child
@@ -28,3 +29,14 @@ pub record AreLater (pairs : List Pair) (later : Later) : Type 0 where
 -- for each method what comes right after each of its children
 abbrev pub AreAllLater : Compiled → List Later → Type 0
 AreAllLater c laters = (m : ℕ) (plan : MethodPlan) → slice_get c.methods m ≡ Some plan → (later : Later) × (slice_get laters m ≡ Some later) × AreLater plan.schema.pairs later × AreDifferent plan.schema.pairs
+
+-- pairs of so many children, each once, of which there are few
+pub record AreSoundPairs (children : ℕ) (pairs : List Pair) : Type 0 where
+  pub below : AreBelow children pairs
+  pub different : AreDifferent pairs
+  pub few : length pairs < 2 ^ 32
+
+-- those of each method, as in what is compiled of a sound problem
+abbrev pub HasSoundPairs : Compiled → Type 0
+HasSoundPairs c = (m : ℕ) (plan : MethodPlan) → slice_get c.methods m ≡ Some plan
+    → AreSoundPairs (length plan.schema.children) plan.schema.pairs

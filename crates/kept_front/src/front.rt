@@ -1,4 +1,4 @@
-ghost use Rattle.std.specs.Prelude.{ℕ, List as Items, ◌≡◌, ◌≤◌, ◌<◌, ◌^◌, ◌+◌, ◌++◌, ◌∷◌, [], length, All, IfOk, OnOk};
+ghost use Rattle.std.specs.Prelude.{ℕ, List as Items, ◌≡◌, ◌↔◌, ◌≤◌, ◌<◌, ◌^◌, ◌+◌, ◌++◌, ◌∷◌, [], length, IsTrue, All, IfOk, OnOk};
 ghost use Rattle.htn_base.specs.Different.{AreDifferent};
 ghost use Rattle.std.specs.Option.{option_copied};
 ghost use Rattle.plan_model.specs.task_networks.Spelling.{Act};
@@ -7,12 +7,15 @@ ghost use Rattle.plan_model.specs.plan_meaning.Network.{network};
 ghost use Rattle.plan_model.specs.declared.values.Compiled.{Compiled as compiled};
 ghost use Rattle.kept_front.specs.Leaves.{leaf_at, room};
 ghost use Rattle.kept_front.specs.Later.{AreAllLater};
+ghost use Rattle.kept_front.specs.Nodes as nodes;
+ghost use Rattle.kept_front.specs.Works.{work_of};
 ghost use Rattle.kept_front.specs.Fronts as spec;
 
 use crate::later::Later;
 use crate::leaves::{Leaf, Leaves};
 use crate::nodes::Nodes;
 use crate::slots::child_slots;
+use crate::works::WorkKind;
 use htn_base::{List, Memory};
 use plan_model::Compiled;
 use std::alloc::Global;
@@ -61,6 +64,47 @@ impl Front {
         ensures { result ≡ leaf_at self.now.leaves slot }
     {
         self.leaves.at(slot)
+    }
+
+    /// Whether the open leaf is this, with these objects.
+    pub fn holds(&self, c: &Compiled, leaf: Leaf, kind: WorkKind, objects: &[u32]) -> bool
+        ensures { IsTrue result ↔ (spec.work_at c.now self.now leaf ≡ work_of kind objects.now) }
+    {
+        let Some(parent) = leaf.parent else {
+            return kind.is_task(c.hddl.tasks.len(), objects);
+        };
+        match self.growths.get(parent as usize) {
+            Some(growth) => kind.is_below(c, &growth.label, leaf.child, objects),
+            None => kind.is_task(0, objects),
+        }
+    }
+
+    /// The growths so far, in the order of the acts.
+    pub fn growths(&self) -> &[Growth]
+        ensures { result.now ≡ self.now.growths }
+    {
+        self.growths.as_slice()
+    }
+
+    /// The growths alone.
+    pub fn into_growths(self) -> List<Growth>
+        ensures { result ≡ self.growths }
+    {
+        let Front {
+            leaves,
+            nodes,
+            growths,
+        } = self;
+        drop(leaves);
+        drop(nodes);
+        growths
+    }
+
+    /// The slot of a child of the growth, which is decomposed. Otherwise 0.
+    pub fn child_slot(&self, growth: u32, child: u32) -> u32
+        ensures { result ≡ nodes.child_slot self.now.nodes growth child }
+    {
+        self.nodes.child_slot(growth, child)
     }
 
     /// A child of the parent has become whole: those that come right after it, and the parent, have one less to wait for.

@@ -3,7 +3,7 @@ ghost use Rattle.plan_model.specs.net_order.Meaning.{AreBelow};
 ghost use Rattle.kept_front.specs.Later as spec;
 
 use htn_base::{List, Memory};
-use plan_model::MethodPlan;
+use plan_model::{Compiled, MethodPlan};
 use std::alloc::Global;
 
 /// For each child of a network those that it comes right before, and how many come right before it.
@@ -38,6 +38,18 @@ impl Later {
             counts[pair.then as usize] += 1;
         }
         Ok(Later { by_child, counts })
+    }
+
+    /// Those of each method, by its place.
+    pub fn all(alloc: Global, c: &Compiled) -> Result<List<Later>, Memory>
+        requires pairs { spec.HasSoundPairs c.now }
+        ensures { IfOk result (spec.AreAllLater c.now) }
+    {
+        let mut laters = List::new(alloc);
+        for plan in c.methods.as_slice() {
+            laters.put(Later::of(alloc, plan))?;
+        }
+        Ok(laters)
     }
 
     /// Those that the child comes right before.
