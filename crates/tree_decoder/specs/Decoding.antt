@@ -42,7 +42,7 @@ pub record IsReady (decoder : Decoder) : Type 0 where
   pub some : 1 ≤ decoder.slots
   pub few : decoder.slots ≤ most_slots
   pub printed : IsPrintedIndex decoder.c.now decoder.printed
-  pub later : AreAllLater decoder.c.now decoder.later.items
+  pub later : AreAllLater decoder.c.now decoder.later
   pub sized : IsSized decoder.slots decoder.front
   pub short : length decoder.front.growths ≤ most_steps
   pub labelled : AreLabelled decoder.c.now decoder.front
