@@ -1,8 +1,11 @@
 -- The facts that were met, as the sets of their numbers and keys grow.
 use Rattle.std.proofs.Common.{ℕ, ◌≡◌, ◌^◌, Bool, true, false, cond, not, List, [], ◌∷◌, ◌++◌, ◌||◌, Option, Some, None, nat_eq, refl, ap, sym, subst, ◌∙◌, true≢false}
 use Rattle.std.proofs.lemmas.Bool.{eqb-true, eq-eqb}
-use Rattle.std.specs.Cmp.Lexicographic.{pointwise}
-use Rattle.std.specs.HashSet.{contains}
+use Rattle.std.specs.Cmp.{unsigned_ties}
+use Rattle.std.specs.Cmp.Lexicographic.{pointwise, texts_ties}
+use Rattle.std.specs.Ordering.{nat_cmp}
+use Rattle.std.specs.BTreeMap.{is_at}
+use Rattle.std.specs.BTreeSet.{contains}
 use Rattle.std.specs.Str.{bytes_eq}
 use Rattle.std.specs.declared.vec.Vec.{Vec}
 use Rattle.std.specs.declared.alloc.Global.{Global}
@@ -13,7 +16,7 @@ use Rattle.plan_texts.proofs.Basics.{bytes_eq-refl, bytes_eq-other}
 use Rattle.slot_encoding.specs.EncodedValue.{same_atom}
 use Rattle.plan_model.proofs.plan_meaning.Once.{has-push}
 use Rattle.slot_encoder.specs.declared.single.Seen.{Seen}
-use Rattle.slot_encoder.specs.SeenFacts.{key_of, is_among, same_key, Meets}
+use Rattle.slot_encoder.specs.SeenFacts.{key_of, is_among, key_cmp, Meets}
 
 same-true : (x g : GroundAtom) → key_of x ≡ key_of g → same_atom x g ≡ true
 same-true x g e = ap (bytes_eq (key_of x)) (sym e) ∙ bytes_eq-refl (key_of x)
@@ -57,29 +60,30 @@ module _ (most : ℕ) where
 module _ (old new : Seen) (x : GroundAtom) (told : Bool) (most : new.most ≡ old.most) where
   -- a fact with this number
   pub met_numbered : (m : ℕ) → number old.most (2 ^ 64) (key_of x) ≡ Some m → new.keys ≡ old.keys
-      → ((n : ℕ) → contains nat_eq new.numbers n ≡ cond (nat_eq m n) true (contains nat_eq old.numbers n))
-      → told ≡ not (contains nat_eq old.numbers m) → Meets old x new told
+      → ((n : ℕ) → contains nat_cmp new.numbers n ≡ cond (is_at (nat_cmp m) n) true (contains nat_cmp old.numbers n))
+      → told ≡ not (contains nat_cmp old.numbers m) → Meets old x new told
   met_numbered m e same more t facts met = (
     t ∙ ap not (met.numbers x m e),
     record {
       numbers = λ g n f. let f = subst (λ m. number m (2 ^ 64) (key_of g) ≡ Some n) most f in
-          among-next facts x g (nat_eq m n) (contains nat_eq old.numbers n) (contains nat_eq new.numbers n) (same-numbered old.most x g m n e f) (met.numbers g n f) (more n);
+          among-next facts x g (is_at (nat_cmp m) n) (contains nat_cmp old.numbers n) (contains nat_cmp new.numbers n)
+          (same-numbered old.most x g m n e f ∙ unsigned_ties m n) (met.numbers g n f) (more n);
       keys = λ g v f k. let f = subst (λ m. number m (2 ^ 64) (key_of g) ≡ None) most f in
-          ap (λ ks. contains same_key ks v) same ∙ among-other facts x g (contains same_key old.keys v) (same-false x g (apart old.most x g m e f)) (met.keys g v f k);
+          ap (λ ks. contains key_cmp ks v) same ∙ among-other facts x g (contains key_cmp old.keys v) (same-false x g (apart old.most x g m e f)) (met.keys g v f k);
     },
   )
 
   -- a fact without a number, with this key
   pub met_keyed : (key : Vec ℕ Global) → number old.most (2 ^ 64) (key_of x) ≡ None → key.items ≡ key_of x → new.numbers ≡ old.numbers
-      → ((v : Vec ℕ Global) → contains same_key new.keys v ≡ cond (same_key key v) true (contains same_key old.keys v))
-      → told ≡ not (contains same_key old.keys key) → Meets old x new told
+      → ((v : Vec ℕ Global) → contains key_cmp new.keys v ≡ cond (is_at (key_cmp key) v) true (contains key_cmp old.keys v))
+      → told ≡ not (contains key_cmp old.keys key) → Meets old x new told
   met_keyed key e is same more t facts met = (
     t ∙ ap not (met.keys x key e is),
     record {
       numbers = λ g n f. let f = subst (λ m. number m (2 ^ 64) (key_of g) ≡ Some n) most f in
-          ap (λ ns. contains nat_eq ns n) same ∙ among-other facts x g (contains nat_eq old.numbers n) (same-false x g (λ k. apart old.most g x n f e (sym k))) (met.numbers g n f);
+          ap (λ ns. contains nat_cmp ns n) same ∙ among-other facts x g (contains nat_cmp old.numbers n) (same-false x g (λ k. apart old.most g x n f e (sym k))) (met.numbers g n f);
       keys = λ g v f k. let f = subst (λ m. number m (2 ^ 64) (key_of g) ≡ None) most f in
-          among-next facts x g (same_key key v) (contains same_key old.keys v) (contains same_key new.keys v)
-          (ap (λ z. pointwise nat_eq z (key_of g)) (sym is) ∙ ap (pointwise nat_eq key.items) (sym k)) (met.keys g v f k) (more v);
+          among-next facts x g (is_at (key_cmp key) v) (contains key_cmp old.keys v) (contains key_cmp new.keys v)
+          (ap (λ z. pointwise nat_eq z (key_of g)) (sym is) ∙ ap (pointwise nat_eq key.items) (sym k) ∙ texts_ties key.items v.items) (met.keys g v f k) (more v);
     },
   )

@@ -1,9 +1,11 @@
 -- The facts that were met, and one more.
 -- Source: this project's.
-use Rattle.std.specs.Prelude.{ℕ, ◌≡◌, ◌^◌, Bool, not, List, [], ◌∷◌, ◌++◌, Some, None, nat_eq}
+use Rattle.std.specs.Prelude.{ℕ, ◌≡◌, ◌^◌, Bool, not, List, [], ◌∷◌, ◌++◌, Some, None}
 use Rattle.std.specs.List.{list_any}
-use Rattle.std.specs.Cmp.Lexicographic.{pointwise}
-use Rattle.std.specs.HashSet.{contains}
+use Rattle.std.specs.Cmp.Lexicographic.{slice_cmp}
+use Rattle.std.specs.Ordering.{nat_cmp}
+use Rattle.std.specs.BTreeSet.{contains}
+use Rattle.std.specs.declared.cmp.Ordering.{Ordering}
 use Rattle.std.specs.declared.vec.Vec.{Vec}
 use Rattle.std.specs.declared.alloc.Global.{Global}
 use Rattle.plan_model.specs.declared.terms.GroundAtom.{GroundAtom}
@@ -18,13 +20,14 @@ key_of g = g.predicate ∷ g.args
 abbrev pub is_among : GroundAtom → List GroundAtom → Bool
 is_among g facts = list_any (λ u. same_atom u g) facts
 
-abbrev pub same_key : Vec ℕ Global → Vec ℕ Global → Bool
-same_key u v = pointwise nat_eq u.items v.items
+-- the order of keys
+abbrev pub key_cmp : Vec ℕ Global → Vec ℕ Global → Ordering
+key_cmp u v = slice_cmp nat_cmp u.items v.items
 
 -- These are the facts that were met.
 pub record HasMet (seen : Seen) (facts : List GroundAtom) : Type 0 where
-  pub numbers : (g : GroundAtom) (n : ℕ) → number seen.most (2 ^ 64) (key_of g) ≡ Some n → contains nat_eq seen.numbers n ≡ is_among g facts
-  pub keys : (g : GroundAtom) (v : Vec ℕ Global) → number seen.most (2 ^ 64) (key_of g) ≡ None → v.items ≡ key_of g → contains same_key seen.keys v ≡ is_among g facts
+  pub numbers : (g : GroundAtom) (n : ℕ) → number seen.most (2 ^ 64) (key_of g) ≡ Some n → contains nat_cmp seen.numbers n ≡ is_among g facts
+  pub keys : (g : GroundAtom) (v : Vec ℕ Global) → number seen.most (2 ^ 64) (key_of g) ≡ None → v.items ≡ key_of g → contains key_cmp seen.keys v ≡ is_among g facts
 
 -- Whichever were met, this one was met too now, and it is told whether it is new.
 abbrev pub Meets : Seen → GroundAtom → Seen → Bool → Type 0

@@ -8,7 +8,7 @@ ghost use Rattle.slot_encoder.specs.SeenFacts.{HasMet, Meets};
 use htn_base::Memory;
 use plan_model::Facts;
 use std::alloc::Global;
-use std::collections::HashSet;
+use std::collections::BTreeSet;
 
 /// Puts each of the facts at the end, at its first place alone. It takes less memory and time for facts of which no predicate
 /// and no object is greater than `most`.
@@ -22,8 +22,8 @@ pub(crate) fn push_single(
 {
     let mut seen = Seen {
         most,
-        numbers: HashSet::new(alloc),
-        keys: HashSet::new(alloc),
+        numbers: BTreeSet::new(alloc),
+        keys: BTreeSet::new(alloc),
     };
     let put = push_unseen(alloc, facts, &mut seen, into);
     drop(seen);
@@ -52,11 +52,12 @@ fn push_unseen(
     Ok(())
 }
 
-/// The facts that were met: the numbers of those that have one, and the keys of the others.
+/// The facts that were met: the numbers of those that have one, and the keys of the others. They are found by an order, in no
+/// more steps whatever a text has.
 pub struct Seen {
     most: u32,
-    numbers: HashSet<u64>,
-    keys: HashSet<Vec<u32>>,
+    numbers: BTreeSet<u64>,
+    keys: BTreeSet<Vec<u32>>,
 }
 
 impl Drop for Seen {

@@ -1,0 +1,5 @@
+-- What a step's words are read as, and where all that is asked holds.
+pub mod SlotWords
+pub mod ReadLaws
+pub mod PartLaws
+pub mod SoundReadable
