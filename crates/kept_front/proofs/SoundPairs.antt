@@ -39,7 +39,7 @@ different_pairs true s = different_once _
 different_pairs false s = different_once s.pairs
 
 -- different numbers below a number are no more than it
-no_more_than : (n : ℕ) (xs : List ℕ) → AreDifferent xs → ((x : ℕ) → Contains xs x → x < n) → length xs ≤ n
+pub no_more_than : (n : ℕ) (xs : List ℕ) → AreDifferent xs → ((x : ℕ) → Contains xs x → x < n) → length xs ≤ n
 no_more_than n xs d below =
     let l = no_more xs (numbers 0 n) d (λ x c. (let m = below x c in to_numbers 0 n x (omega arith) (omega arith))) in
     let e = length-numbers 0 n in

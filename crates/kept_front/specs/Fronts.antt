@@ -133,6 +133,11 @@ pub record IsGrownAt (leaf : Leaf) (slot : ℕ) (slots : List ℕ) (label : Labe
   pub leaves : AreRegrown slot (length old.growths) slots later old.leaves new.leaves
   pub nodes : IsPushed slots old.nodes new.nodes
 
+-- the growths are those before and one more, with this label
+abbrev pub HasGrown : Label → Front → Front → Type 0
+HasGrown label old new = (parent : Option ℕ) × (child : ℕ)
+    × (new.growths ≡ old.growths ++ record { parent = parent; child = child; label = label } ∷ [])
+
 -- There is room for b slots, and something is kept of each growth.
 pub record IsSized (b : ℕ) (front : Front) : Type 0 where
   pub room : room front.leaves ≡ b

@@ -152,6 +152,7 @@ impl Front {
         requires lawful { IsLawful (network c.now) }
         requires later { AreAllLater c.now later.now }
         requires whole { spec.IsSomeWholeAt c.now self.old growth }
+        ensures growths { self.new.growths ≡ self.old.growths }
         ensures sized { spec.StaysSized self.old self.new }
         ensures front { (b : ℕ) (acts : Items (Act (network c.now))) (a : Act (network c.now))
             → spec.IsWholeAt c.now b self.old growth acts a → spec.IsFrontOf c.now b self.new (acts ++ a ∷ []) }
@@ -213,6 +214,7 @@ impl Front {
         requires few_new { length new.now + 1 < 2 ^ 32 }
         requires few_growths { length self.old.growths < 2 ^ 32 }
         requires may { spec.MayTakeSome c.now self.old slot new.now label }
+        ensures grown { OnOk result (spec.HasGrown label self.old self.new) }
         ensures sized { OnOk result (spec.StaysSized self.old self.new) }
         ensures taken { OnOk result ((b : ℕ) (acts : Items (Act (network c.now))) (a : Act (network c.now))
             → spec.MayTakeAt c.now b self.old acts a slot new.now label → spec.IsFrontOf c.now b self.new (acts ++ a ∷ [])) }

@@ -43,6 +43,7 @@ walk-requires-clause-whole c =
 
 pub returns-then-childless : goal.returns-then-childless
 returns-then-childless c = record {
+  grown = (c.in-Some.leaf.parent, c.in-Some.leaf.child, c.walk.ensures.growths ∙ c.in_ok-grow.ensures.growths);
   sized = λ b s. c.walk.ensures.sized b (grown_sized c.in-Some.leaf c.args.slot c.in_ok-slots.slots.items c.args.label _ c.args.self.now c.grow.new.self c.in_ok-grow.ensures b s);
   taken = λ b acts a may. c.walk.ensures.front b acts a
       (subst (λ k. IsWholeAt c.args.c.now b c.grow.new.self k acts a) (sym c.len-growth.ensures.length)
@@ -53,6 +54,7 @@ returns-then-childless c = record {
 
 pub returns-else-childless : goal.returns-else-childless
 returns-else-childless c = record {
+  grown = (c.in-Some.leaf.parent, c.in-Some.leaf.child, c.in_ok-grow.ensures.growths);
   sized = grown_sized c.in-Some.leaf c.args.slot c.in_ok-slots.slots.items c.args.label _ c.args.self.now c.grow.new.self c.in_ok-grow.ensures;
   taken = λ b acts a may.
       taken_of c.args.c.now c.requires.lawful b acts a c.args.self.now c.args.slot c.args.new.now c.args.label may c.in-Some.leaf (sym c.at.ensures.leaf ∙ c.in-Some.is) c.args.later.now c.requires.later

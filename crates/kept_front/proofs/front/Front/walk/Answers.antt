@@ -30,6 +30,7 @@ returns-then-unfinished-gt0-clause-front c = λ b acts a w0.
 
 pub loop-parent-preserved : goal.loop-parent-preserved
 loop-parent-preserved c = record {
+  growths = c.lower.ensures.lowered.growths ∙ c.loop-parent.invariant.growths;
   sized = λ b s. c.lower.ensures.sized b (c.loop-parent.invariant.sized b s);
   some = (
       let (b, acts, a, w) = c.loop-parent.invariant.some in
