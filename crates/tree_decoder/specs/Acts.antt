@@ -17,14 +17,12 @@ use Rattle.problem_index.specs.declared.printed_index.PrintedName.{PrintedName}
 use Rattle.problem_index.specs.declared.world.World.{World}
 use Rattle.problem_index.specs.Kinds.{IsWorld}
 use Rattle.ground_state.specs.Frames.{frame}
-use Rattle.ground_state.specs.Needs.{HasRoomForCompiled}
 use Rattle.ground_state.specs.States.{has_ground}
-use Rattle.ground_state.specs.declared.env.Env.{Env}
 use Rattle.ground_state.specs.declared.state.State.{State}
 use Rattle.tree_core.specs.declared.label.Label.{Label}
 use Rattle.tree_core.specs.Labels as labels
 use Rattle.decoding.specs.declared.causes.Why.{Why}
-use Rattle.decoding.specs.FailingAct.{work_in, IsMet}
+use Rattle.decoding.specs.FailingAct.{work_in, new_in, IsMet}
 use Rattle.decoding.specs.Keeping.{MayTake}
 use Rattle.decoding.specs.HeldLeaves.{Leaf}
 use Rattle.decoding.specs.PrintedSteps.{IsReadAs}
@@ -34,19 +32,23 @@ use Rattle.kept_front.specs.Fronts.{kept, label_in}
 use Rattle.kept_front.specs.Leaves.{leaf_at}
 use Rattle.kept_front.specs.declared.works.WorkKind.{WorkKind}
 use Rattle.kept_front.specs.Works.{work_of}
-use Rattle.step_reader.specs.Reading.{act_of}
+use Rattle.step_reader.specs.Readings.{act_of}
 use Rattle.tree_decoder.specs.declared.testing.Scratch.{Scratch}
 use Rattle.tree_decoder.specs.Decoding.{AreBehind, FailsHere}
 
 -- the act of a name at a slot, with the new slots and objects that are noted
 abbrev pub act_in : (c : Compiled) → PrintedName → ℕ → Scratch → Act (network c)
-act_in c name slot scratch = act_of c name slot scratch.new.items (frame scratch.env).objects
+act_in c name slot scratch = act_of c name slot scratch.new_slots.items (frame scratch.env).objects
 
 -- some step is read as the act
 abbrev pub IsSomeStep : (c : Compiled) → Act (network c) → Type 0
 IsSomeStep c a = (b : ℕ) × (step : GroundAction) × IsReadAs c b step a
 
--- and as an act of this name with these objects
+-- and its new slots are those that are noted
+abbrev pub AreNewNoted : Compiled → PrintedName → ℕ → Scratch → Type 0
+AreNewNoted c name slot scratch = new_in (network c) (act_in c name slot scratch) ≡ scratch.new_slots.items
+
+-- some step is read as an act of this name with these objects
 abbrev pub IsNamedWith : Compiled → PrintedName → List ℕ → Type 0
 IsNamedWith c name objects = (slot : ℕ) × (new : List ℕ) × IsSomeStep c (act_of c name slot new objects)
 
@@ -77,16 +79,13 @@ pub record IsLabelWith (c : Compiled) (name : PrintedName) (objects : List ℕ) 
 
 -- the world is the problem's
 pub record IsWorldOf (c : Compiled) (world : World) : Type 0 where
-  pub world : IsWorld world
+  pub known : IsWorld world
   pub types : world.types.now ≡ c.hddl.types
   pub objects : world.objects.now ≡ c.hddl.objects
 
-abbrev pub HasRoom : Compiled → Env → Type 0
-HasRoom c env = HasRoomForCompiled c (frame env).room (frame env).arity
-
 -- what is noted of the step stays
 pub record StaysNoted (old new : Scratch) : Type 0 where
-  pub slots : new.new.items ≡ old.new.items
+  pub slots : new.new_slots.items ≡ old.new_slots.items
   pub objects : frame new.env ≡ frame old.env
 
 -- each of the constraints is true

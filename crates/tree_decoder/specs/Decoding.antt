@@ -8,7 +8,6 @@ use Rattle.plan_model.specs.declared.values.Compiled.{Compiled}
 use Rattle.plan_model.specs.plan_meaning.Network.{network}
 use Rattle.problem_index.specs.Printed.{IsPrintedIndex}
 use Rattle.ground_state.specs.Frames.{frame}
-use Rattle.ground_state.specs.Needs.{HasRoomForCompiled}
 use Rattle.ground_state.specs.States.{has_ground}
 use Rattle.ground_state.specs.declared.state.State.{State}
 use Rattle.tree_core.specs.declared.growth.Growth.{Growth}
@@ -23,6 +22,7 @@ use Rattle.kept_front.specs.Fronts.{kept, growths_in, IsSized}
 use Rattle.kept_front.specs.Leaves.{leaf_at}
 use Rattle.kept_front.specs.Nodes.{child_slot}
 use Rattle.kept_front.specs.Later.{AreAllLater}
+use Rattle.step_reader.specs.Readings.{HasRoomIn}
 use Rattle.tree_decoder.specs.declared.decoded.Decoded.{Decoded}
 use Rattle.tree_decoder.specs.declared.decoded.DecodeError.{DecodeError}
 use Rattle.tree_decoder.specs.declared.decoder.Decoder.{Decoder}
@@ -46,7 +46,9 @@ pub record IsReady (decoder : Decoder) : Type 0 where
   pub sized : IsSized decoder.slots decoder.front
   pub short : length decoder.front.growths ≤ most_steps
   pub labelled : AreLabelled decoder.c.now decoder.front
-  pub room : HasRoomForCompiled decoder.c.now (frame decoder.scratch.env).room (frame decoder.scratch.env).arity
+  pub room : HasRoomIn decoder.c.now (frame decoder.scratch.env)
+  -- some steps were taken
+  pub taken : (steps : List GroundAction) × AreBehind decoder.c.now decoder.slots steps decoder.front decoder.state
 
 -- the decoder is one of the problem with b slots, and has taken these steps
 pub record HasTaken (c : Compiled) (b : ℕ) (steps : List GroundAction) (decoder : Decoder) : Type 0 where
@@ -71,6 +73,11 @@ Finishes decoder decoded = (c : Compiled) (b : ℕ) (steps : List GroundAction) 
 -- or they spell no solution
 abbrev pub Leaves : Decoder → DecodeError → Type 0
 Leaves decoder why = (c : Compiled) (b : ℕ) (steps : List GroundAction) → HasTaken c b steps decoder → IsRefused c b steps why
+
+-- whatever was taken: the steps spell a solution, of which the front is kept, or this is left
+abbrev pub IsLeft : Decoder → Option Why → Type 0
+IsLeft decoder found = (c : Compiled) (b : ℕ) (steps : List GroundAction) → HasTaken c b steps decoder
+    → MatchOption found (Steps.IsSolvedBy c b steps (kept c decoder.front)) (FailsAt c b steps (length steps + 1))
 
 -- one of the first b slots holds an open leaf
 abbrev pub IsSomeHeld : ℕ → Front → Type 0

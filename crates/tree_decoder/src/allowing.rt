@@ -1,5 +1,6 @@
 ghost use Rattle.std.specs.Prelude.{◌≡◌, ◌↔◌, IsTrue};
 ghost use Rattle.ground_state.specs.Frames.{frame};
+ghost use Rattle.step_reader.specs.Readings.{HasRoomIn};
 ghost use Rattle.tree_decoder.specs.Acts as spec;
 
 use ground_state::{Env, State, is_true};
@@ -16,7 +17,7 @@ pub(crate) fn is_allowed(
     env: &mut Env,
 ) -> bool
     requires world { spec.IsWorldOf c.now world.now }
-    requires room { spec.HasRoom c.now env.old }
+    requires room { HasRoomIn c.now (frame env.old) }
     requires some { spec.IsNamedWith c.now name (frame env.old).objects }
     ensures allowed { IsTrue result ↔ spec.AllowsWith c.now state.now name (frame env.old).objects }
     ensures kept { frame env.new ≡ frame env.old }

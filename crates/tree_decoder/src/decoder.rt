@@ -1,21 +1,22 @@
-ghost use Rattle.std.specs.Prelude.{◌≤◌, ◌↔◌, IsTrue, [], length, IfOk, IfErr};
+ghost use Rattle.std.specs.Prelude.{◌≡◌, ◌≤◌, ◌↔◌, IsTrue, [], length, IfOk, IfErr};
 ghost use Rattle.htn_base.specs.Limits.{most_slots, most_steps};
 ghost use Rattle.plan_texts.specs.SoundlyCompiled.{IsSoundlyCompiled};
 ghost use Rattle.ground_state.specs.Runs.{words_step};
 ghost use Rattle.tree_decoder.specs.Decoding as spec;
+ghost use Rattle.tree_decoder.specs.Taking.{IsRead, TakesAct};
 
 use crate::decoded::{DecodeError, Decoded};
+use crate::taking::{apply, grow_by};
 use crate::testing::{Scratch, obstacle};
 use decoding::Why;
 use ground_state::{State, is_true};
-use htn_base::limits::MOST_STEPS;
 use htn_base::{List, Memory};
 use kept_front::{Front, Later};
-use plan_model::Compiled;
+use plan_model::{Compiled, GroundAction};
 use problem_index::{PrintedIndex, PrintedName};
 use std::alloc::Global;
 use step_reader::{Read, read};
-use tree_core::grow;
+use tree_core::{Growth, grow};
 
 /// A decoder of steps over a compiled problem with so many slots: what is kept of the front that the steps taken spell, and the
 /// state behind them.
@@ -89,14 +90,49 @@ impl<'c> Decoder<'c> {
             self.slots,
             name,
             args,
-            &mut self.scratch.new,
+            &mut self.scratch.new_slots,
             &mut self.scratch.env,
         )?;
-        let (name, slot) = match found {
-            Read::Unnamed => return Ok(Some(Why::UnknownAction)),
-            Read::Unread => return Ok(Some(Why::Arguments)),
-            Read::Act { name, slot } => (name, slot),
-        };
+        match found {
+            Read::Unnamed => Ok(Some(Why::UnknownAction)),
+            Read::Unread => Ok(Some(Why::Arguments)),
+            Read::Act { name, slot } => self.take_act(alloc, name, slot),
+        }
+    }
+
+    /// The same, of a ground action. `words`: room for where its arguments stand.
+    pub(crate) fn take_action<'s>(
+        &mut self,
+        alloc: Global,
+        step: &'s GroundAction,
+        words: &mut Vec<&'s [u8]>,
+    ) -> Result<Option<Why>, Memory>
+        requires ready { spec.IsReady self.old }
+        ensures taken { IfOk result (spec.Takes step.now self.old self.new) }
+    {
+        words.clear();
+        for word in step.args.as_slice() {
+            words.push(word.as_slice())?;
+        }
+        self.take(alloc, step.name.as_slice(), words.as_slice())
+    }
+
+    /// Takes the act of this name at the slot, whose new slots and objects are noted, or says the first cause for which it can't be
+    /// taken.
+    fn take_act(
+        &mut self,
+        alloc: Global,
+        name: PrintedName,
+        slot: u32,
+    ) -> Result<Option<Why>, Memory>
+        requires ready { spec.IsReady self.old }
+        requires read { IsRead name slot self.old }
+        ensures taken { IfOk result (TakesAct name slot self.old self.new) }
+    {
+        let world = self
+            .printed
+            .index()
+            .world(&self.c.hddl.types, &self.c.hddl.objects);
         let obstacle = obstacle(
             alloc,
             self.c,
@@ -110,51 +146,83 @@ impl<'c> Decoder<'c> {
         if obstacle.is_some() {
             return Ok(obstacle);
         }
-        if self.front.growths().len() >= MOST_STEPS as usize {
-            return Err(Memory);
-        }
-        let label = self.scratch.label(alloc, self.c, name)?;
-        let new = self.scratch.new.as_slice();
-        self.front
-            .take(alloc, self.c, self.later.as_slice(), slot, new, label)?;
-        if let PrintedName::Action(action) = name {
-            if let Some(action) = self.c.hddl.actions.get(action as usize) {
-                self.state
-                    .apply_in(alloc, &world, &action.eff, &mut self.scratch.env)?;
-            }
-        }
+        grow_by(
+            alloc,
+            self.c,
+            self.later.as_slice(),
+            &mut self.front,
+            name,
+            slot,
+            &self.scratch,
+        )?;
+        apply(
+            alloc,
+            self.c,
+            &world,
+            &mut self.state,
+            name,
+            &mut self.scratch.env,
+        )?;
         Ok(None)
     }
 
     /// The tree of the steps taken, with their schedule and slots, where they spell a solution; else what is left.
-    pub fn finish(self, alloc: Global) -> Result<Decoded, DecodeError>
+    pub fn finish(mut self, alloc: Global) -> Result<Decoded, DecodeError>
         requires ready { spec.IsReady self }
-        ensures decoded { IfOk result (spec.Finishes self) }
-        ensures refused { IfErr result (spec.Leaves self) }
+        ensures decoded { IfOk result (spec.Finishes self.entry) }
+        ensures refused { IfErr result (spec.Leaves self.entry) }
+    {
+        let step = self.front.growths().len() as u32 + 1;
+        if let Some(why) = self.left() {
+            drop(self);
+            return Err(DecodeError::NotAPlan { step, why });
+        }
+        decoded(alloc, self.into_front())
+    }
+
+    /// What is left at the end of the steps taken, if anything.
+    fn left(&mut self) -> Option<Why>
+        requires ready { spec.IsReady self.old }
+        ensures left { spec.IsLeft self.old result }
+        ensures kept { self.new.front ≡ self.old.front }
+    {
+        if holds_some(&self.front, self.slots) {
+            return Some(Why::Unfinished);
+        }
+        self.scratch.env.clear();
+        let world = self
+            .printed
+            .index()
+            .world(&self.c.hddl.types, &self.c.hddl.objects);
+        if is_true(
+            &self.c.hddl.goal,
+            &mut self.scratch.env,
+            &self.state,
+            &world,
+        ) {
+            return None;
+        }
+        Some(Why::GoalFalse)
+    }
+
+    /// What is kept of the front alone.
+    fn into_front(self) -> Front
+        ensures { result ≡ self.entry.front }
     {
         let Decoder {
-            c,
-            slots,
+            c: _,
+            slots: _,
             printed,
             later,
             front,
             state,
-            mut scratch,
+            scratch,
         } = self;
+        drop(printed);
         drop(later);
-        let step = front.growths().len() as u32 + 1;
-        if holds_some(&front, slots) {
-            let why = Why::Unfinished;
-            return Err(DecodeError::NotAPlan { step, why });
-        }
-        scratch.env.clear();
-        let world = printed.index().world(&c.hddl.types, &c.hddl.objects);
-        if !is_true(&c.hddl.goal, &mut scratch.env, &state, &world) {
-            let why = Why::GoalFalse;
-            return Err(DecodeError::NotAPlan { step, why });
-        }
         drop(state);
-        decoded(alloc, front)
+        drop(scratch);
+        front
     }
 }
 
@@ -176,10 +244,18 @@ fn decoded(alloc: Global, front: Front) -> Result<Decoded, DecodeError>
     requires few { length front.growths ≤ most_steps }
     ensures decoded { IfOk result (spec.HasTree front) }
 {
-    let slots = slots_of(alloc, &front)?;
-    match grow(alloc, front.into_growths()) {
-        Ok(run) => Ok(Decoded { run, slots }),
-        Err(_) => Err(DecodeError::Memory),
+    match slots_of(alloc, &front) {
+        Ok(slots) => match grow(alloc, front.into_growths()) {
+            Ok(run) => Ok(Decoded { run, slots }),
+            Err(_) => {
+                drop(slots);
+                Err(DecodeError::Memory)
+            }
+        },
+        Err(_) => {
+            drop(front);
+            Err(DecodeError::Memory)
+        }
     }
 }
 
@@ -189,11 +265,17 @@ fn slots_of(alloc: Global, front: &Front) -> Result<List<u32>, Memory>
 {
     let mut slots = List::with_room(alloc, front.growths().len())?;
     for growth in front.growths() {
-        let slot = match growth.parent {
-            Some(parent) => front.child_slot(parent, growth.child),
-            None => 1,
-        };
-        slots.push(slot)?;
+        slots.push(slot_of(front, growth))?;
     }
     Ok(slots)
+}
+
+/// The slot of a growth.
+fn slot_of(front: &Front, growth: &Growth) -> u32
+    ensures { result ≡ spec.slot_under front.now growth.now.parent growth.now.child }
+{
+    match growth.parent {
+        Some(parent) => front.child_slot(parent, growth.child),
+        None => 1,
+    }
 }

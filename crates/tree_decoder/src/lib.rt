@@ -7,13 +7,14 @@
 #![tactic(auto)]
 
 mod allowing;
-mod decode;
 mod decoded;
 mod decoder;
 mod meeting;
+mod plan;
+mod taking;
 mod testing;
 
-pub use decode::decode;
 pub use decoded::{DecodeError, Decoded};
 pub use decoder::Decoder;
 pub use decoding::Why;
+pub use plan::decode;

@@ -32,9 +32,7 @@ pub(crate) fn is_met(c: &Compiled, world: &World<'_>, name: PrintedName, env: &E
 fn are_true(constraints: &[Constraint], env: &Env) -> bool
     ensures { IsTrue result ↔ spec.AreMet (frame env.now).objects constraints.now }
 {
-    constraints
-        .iter()
-        .all(|one| one.equal == (env.value(one.left) == env.value(one.right)))
+    constraints.iter().all(|one| one.equal == (env.value(one.left) == env.value(one.right)))
 }
 
 /// Whether each of the terms stands for an object of its type.

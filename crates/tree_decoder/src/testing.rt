@@ -1,6 +1,7 @@
 ghost use Rattle.std.specs.Prelude.{◌≡◌, ◌↔◌, IsTrue, None, IfOk, OnOk};
 ghost use Rattle.plan_texts.specs.SoundlyCompiled.{IsSoundlyCompiled};
 ghost use Rattle.ground_state.specs.Frames.{frame};
+ghost use Rattle.step_reader.specs.Readings.{HasRoomIn};
 ghost use Rattle.tree_decoder.specs.Acts as spec;
 
 use crate::allowing::is_allowed;
@@ -17,7 +18,7 @@ use tree_core::Label;
 
 /// What is noted of the step that is read: its new slots, its objects in force, and the objects of what it processes.
 pub(crate) struct Scratch {
-    pub(crate) new: Vec<u32>,
+    pub(crate) new_slots: Vec<u32>,
     pub(crate) env: Env,
     pub(crate) task: Vec<u32>,
 }
@@ -25,7 +26,7 @@ pub(crate) struct Scratch {
 impl Drop for Scratch {
     fn drop(self) {
         let Scratch {
-            new: _,
+            new_slots: _,
             env: _,
             task: _,
         } = self;
@@ -35,12 +36,12 @@ impl Drop for Scratch {
 impl Scratch {
     /// Nothing is noted; there is room for the objects of each step of the problem.
     pub(crate) fn new(alloc: Global, c: &Compiled) -> Result<Scratch, Memory>
-        ensures room { IfOk result (λ scratch. spec.HasRoom c.now scratch.env) }
+        ensures room { IfOk result (λ scratch. HasRoomIn c.now (frame scratch.env)) }
     {
         let need = Need::of_compiled(c)?;
         let env = Env::new(alloc, &List::new(alloc), need.depth, need.arity)?;
         Ok(Scratch {
-            new: Vec::new(alloc),
+            new_slots: Vec::new(alloc),
             env,
             task: Vec::new(alloc),
         })
@@ -86,7 +87,7 @@ impl Scratch {
         requires work { spec.HasWork c.now name self.now }
         ensures label { IfOk result (spec.IsLabelWith c.now name (frame self.now.env).objects) }
     {
-        let objects = List::from_slice(alloc, self.env.objects())?;
+        let objects = listed(alloc, self.env.objects())?;
         match name {
             PrintedName::Action(action) => Ok(Label::Primitive {
                 action,
@@ -103,13 +104,24 @@ impl Scratch {
                 };
                 Ok(Label::Abstract {
                     task,
-                    args: List::from_slice(alloc, self.task.as_slice())?,
+                    args: listed(alloc, self.task.as_slice())?,
                     method,
                     method_args: objects,
                 })
             }
         }
     }
+}
+
+/// These objects as a list.
+fn listed(alloc: Global, objects: &[u32]) -> Result<List<u32>, Memory>
+    ensures { IfOk result (λ list. list ≡ objects.now) }
+{
+    let mut list = List::with_room(alloc, objects.len())?;
+    for object in objects {
+        list.push(*object)?;
+    }
+    Ok(list)
 }
 
 /// Why the act of this name at the slot can't be taken, by the first cause that is found.
@@ -125,8 +137,9 @@ pub(crate) fn obstacle(
 ) -> Result<Option<Why>, Memory>
     requires soundly { IsSoundlyCompiled c.now }
     requires world { spec.IsWorldOf c.now world.now }
-    requires room { spec.HasRoom c.now scratch.old.env }
+    requires room { HasRoomIn c.now (frame scratch.old.env) }
     requires some { spec.IsSomeStep c.now (spec.act_in c.now name slot scratch.old) }
+    requires new { spec.AreNewNoted c.now name slot scratch.old }
     ensures obstacle { IfOk result (spec.IsObstacle c.now (spec.act_in c.now name slot scratch.old) front.now state.now) }
     ensures noted { OnOk result (spec.StaysNoted scratch.old scratch.new) }
     ensures work { IfOk result (λ found. found ≡ None → spec.HasWork c.now name scratch.new) }
@@ -141,7 +154,7 @@ pub(crate) fn obstacle(
     if leaf.blocked > 0 {
         return Ok(Some(Why::Waiting));
     }
-    if is_one_held(alloc, front, scratch.new.as_slice())? {
+    if is_one_held(alloc, front, scratch.new_slots.as_slice())? {
         return Ok(Some(Why::SlotTaken));
     }
     if !is_met(c, world, name, &scratch.env) {

@@ -26,11 +26,7 @@ pub fn decode(
     let mut decoder = Decoder::new(alloc, c, slots)?;
     let mut words = Vec::new(alloc);
     for (i, step) in plan.iter().enumerate() {
-        words.clear();
-        for word in step.args.as_slice() {
-            words.push(word.as_slice())?;
-        }
-        if let Some(why) = decoder.take(alloc, step.name.as_slice(), words.as_slice())? {
+        if let Some(why) = decoder.take_action(alloc, step, &mut words)? {
             let step = i as u32 + 1;
             return Err(DecodeError::NotAPlan { step, why });
         }
