@@ -1,5 +1,6 @@
 -- What a step's words are read as, and where all that is asked holds.
 pub mod SlotWords
+pub mod NameLaws
 pub mod ReadLaws
 pub mod PartLaws
 pub mod SoundReadable

@@ -1,13 +1,16 @@
 -- A step is read by the parts of its arguments: where one is not as it is due, the step is read as no act.
-use Rattle.std.proofs.Common.{ℕ, ◌≡◌, ◌≤◌, List, ◌∷◌, ◌++◌, map, length, ap, sym, subst, ◌∙◌}
+use Rattle.std.proofs.Common.{Bool, true, false, ℕ, ◌≡◌, ◌≤◌, List, ◌∷◌, ◌++◌, map, length, ap, sym, subst, ◌∙◌}
 use Rattle.std.proofs.lemmas.List.{length-map}
 use Rattle.htn_base.specs.Escapes.{slot_word}
+use Rattle.plan_model.specs.declared.terms.Param.{Param}
 use Rattle.plan_model.specs.declared.steps.GroundAction.{GroundAction}
 use Rattle.plan_model.specs.declared.values.Compiled.{Compiled}
 use Rattle.plan_model.specs.task_networks.Spelling.{Act}
 use Rattle.plan_model.specs.plan_meaning.ClassicalPlan.{AreObjects}
-use Rattle.plan_model.specs.plan_meaning.Network.{network}
+use Rattle.plan_model.specs.plan_meaning.Truth.{AreTyped}
+use Rattle.plan_model.specs.plan_meaning.Network.{network, InTypeOf}
 use Rattle.plan_model.specs.plan_meaning.SpelledPlan.{object_word}
+use Rattle.problem_index.specs.declared.index.Index.{Index}
 use Rattle.problem_index.specs.declared.printed_index.PrintedIndex.{PrintedIndex}
 use Rattle.problem_index.specs.declared.printed_index.PrintedName.{PrintedName}
 use Rattle.problem_index.specs.declared.printed_index.PrintedName.TheVariants.{Action, Check, Method}
@@ -20,7 +23,7 @@ use Rattle.ground_state.specs.Frames.{Frame}
 use Rattle.ground_state.specs.Runs.{texts, AreArguments}
 use Rattle.decoding.specs.PrintedSteps.{IsNamed, IsReadAs}
 use Rattle.step_reader.specs.declared.due.Parts.{Parts}
-use Rattle.step_reader.specs.Arguments.{params_of, new_slots, AreTooFew, AreParts, IsNamedBy, AreNamedBy}
+use Rattle.step_reader.specs.Arguments.{params_of, new_slots, AreTooFew, AreParts, IsNamedBy, AreNamedBy, AreTheSlots}
 use Rattle.step_reader.specs.Readings.{act_of, IsReadable, AreOwn, HasRoomIn}
 use Rattle.step_reader.proofs.SlotWords.{own_words, words_are, each_within, cut_once}
 use Rattle.step_reader.proofs.ReadLaws.{action_params, method_params, AreDue, due, is_named, is_read}
@@ -35,51 +38,86 @@ module _ (c : Compiled) where
       subst (λ o. length (method_params c o) ≤ env.room) (sym at) (room.methods plan (contains_from c.methods m plan at)).depth
 
   module _ (is : IsReadable c) where
-    pub are_of : (printed : PrintedIndex) (world : World) → AreOwn c printed world → AreOf (in_print c.hddl) printed.index world
-    are_of printed world own = record { apart = printed_apart c is.apart.actions is.apart.objects; indexed = own.index.indexed; types = own.types; objects = own.objects }
+    -- the index and the world are those of the problem in its printed words
+    pub are_of : (printed : PrintedIndex) (world : World) → AreOwn c printed world → (index : Index) → index ≡ printed.index
+        → AreOf (in_print c.hddl) index world
+    are_of printed world own index same = subst (λ (x : Index). AreOf (in_print c.hddl) x world) (sym same) (record {
+      apart = printed_apart c is.apart.actions is.apart.objects;
+      indexed = own.index.indexed;
+      types = own.types;
+      objects = own.objects;
+    })
 
-    module _ (b : ℕ) (name : PrintedName) (step : GroundAction) where
+    module _ (b : ℕ) (name : PrintedName) (step : GroundAction) (named : IsThere c name × (word_of c name ≡ step.name)) where
+      abbrev pub IsUnread : Type 0
+      IsUnread = IsNamed c step × ((a : Act (network c)) → IsReadAs c b step a → ⊥)
+
       abbrev Due : Type 0
       Due = AreDue c is b name step.args
 
-      pub unread : IsThere c name → word_of c name ≡ step.name → (Due → ⊥) → IsNamed c step × ((a : Act (network c)) → IsReadAs c b step a → ⊥)
-      unread there word none = (is_named c step name there word, λ a r. none (due c is b name step there word a r))
+      unread : (Due → ⊥) → IsUnread
+      unread none = (is_named c step name named.0 named.1, λ a r. none (due c is b name step named.0 named.1 a r))
 
-      pub too_few : AreTooFew step.args (new_slots c name) → Due → ⊥
-      too_few few d = few (slot_word d.slot) (map slot_word d.new) (map (object_word c) d.objects) d.are (length-map d.new slot_word ∙ d.many)
+      module _ (many : ℕ) (many_is : many ≡ new_slots c name) where
+        as_many : (d : Due) → length (map slot_word d.new) ≡ many
+        as_many d = length-map d.new slot_word ∙ d.many ∙ sym many_is
 
-      module _ (parts : Parts) (cut : AreParts step.args (new_slots c name) parts) where
-        pub same_slot : (d : Due) → parts.slot.now ≡ slot_word d.slot
-        same_slot d = let e = sym cut.are ∙ d.are in cc
+        pub too_few : AreTooFew step.args many → IsUnread
+        too_few few = unread (λ d. few (slot_word d.slot) (map slot_word d.new) (map (object_word c) d.objects) d.are (as_many d))
 
-        same_rest : (d : Due) → (texts parts.new.now ≡ map slot_word d.new) × (texts parts.objects.now ≡ map (object_word c) d.objects)
-        same_rest d =
-            let e = sym cut.are ∙ d.are in
-            cut_once (texts parts.new.now) (map slot_word d.new) (texts parts.objects.now) (map (object_word c) d.objects) (cut.as_many ∙ sym (length-map d.new slot_word ∙ d.many)) cc
+        module _ (parts : Parts) (cut : AreParts step.args many parts) where
+          same_slot : (d : Due) → parts.slot.now ≡ slot_word d.slot
+          same_slot d = let e = sym cut.are ∙ d.are in cc
 
-        pub no_slot : ((k : ℕ) → IsNamedBy b parts.slot.now k → ⊥) → Due → ⊥
-        no_slot none d = none d.slot (d.within, same_slot d)
+          abbrev IsRest : List (List ℕ) → List (List ℕ) → Type 0
+          IsRest slots objects = (texts parts.new.now ≡ slots) × (texts parts.objects.now ≡ objects)
 
-        pub no_new : ((slots : List ℕ) → AreNamedBy b (texts parts.new.now) slots → ⊥) → Due → ⊥
-        no_new none d = none d.new (subst (λ words. AreNamedBy b words d.new) (sym (same_rest d).0) (own_words b d.new d.new_within))
+          same_rest : (d : Due) → IsRest (map slot_word d.new) (map (object_word c) d.objects)
+          same_rest d =
+              let slots = map slot_word d.new in
+              let objects = map (object_word c) d.objects in
+              let e = sym cut.are ∙ d.are in
+              cut_once (texts parts.new.now) slots (texts parts.objects.now) objects (cut.as_many ∙ sym (as_many d)) cc
 
-        pub no_objects : ((objects : List ℕ) → AreArguments (in_print c.hddl) (params_of c name) (texts parts.objects.now) objects → ⊥) → Due → ⊥
-        no_objects none d =
-            none d.objects (subst (AreObjects (in_print c.hddl) d.objects) (sym (same_rest d).1) (printed_objects c is.object_names (params_of c name) d.objects d.typed), d.typed)
+          pub no_slot : ((k : ℕ) → IsNamedBy b parts.slot.now k → ⊥) → IsUnread
+          no_slot none = unread (λ d. none d.slot (d.within, same_slot d))
 
-        pub all_read : IsThere c name → word_of c name ≡ step.name → (slot : ℕ) (new objects : List ℕ) → IsNamedBy b parts.slot.now slot
-            → AreNamedBy b (texts parts.new.now) new → AreArguments (in_print c.hddl) (params_of c name) (texts parts.objects.now) objects
-            → IsReadAs c b step (act_of c name slot new objects)
-        all_read there word slot new objects first slots args =
-            let new_words = words_are b (texts parts.new.now) new slots in
-            let object_words = objects_printed c objects (texts parts.objects.now) args.0 in
-            is_read c is b name step there word (record {
-              slot = slot;
-              new = new;
-              objects = objects;
-              within = first.0;
-              new_within = each_within b (texts parts.new.now) new slots;
-              many = sym (length-map new slot_word) ∙ ap length (sym new_words) ∙ cut.as_many;
-              typed = args.1;
-              are = cut.are ∙ (λ i. first.1 i ∷ (new_words i ++ object_words i));
-            })
+          pub no_new : (found : Bool) (slots : List ℕ) → found ≡ false → AreTheSlots b (texts parts.new.now) found slots → IsUnread
+          no_new found slots e are =
+              let none = subst (λ (t : Bool). AreTheSlots b (texts parts.new.now) t slots) e are in
+              unread (λ d. none d.new (subst (λ words. AreNamedBy b words d.new) (sym (same_rest d).0) (own_words b d.new d.new_within)))
+
+          pub new_are : (found : Bool) (slots : List ℕ) → found ≡ true → AreTheSlots b (texts parts.new.now) found slots
+              → AreNamedBy b (texts parts.new.now) slots
+          new_are found slots e are = subst (λ (t : Bool). AreTheSlots b (texts parts.new.now) t slots) e are
+
+          module _ (params : List Param) (params_are : params ≡ params_of c name) where
+            abbrev pub AreObjectsOf : List ℕ → Type 0
+            AreObjectsOf objects = AreArguments (in_print c.hddl) params (texts parts.objects.now) objects
+
+            words : (d : Due) → AreObjects (in_print c.hddl) d.objects (texts parts.objects.now)
+            words d =
+                let own = printed_objects c is.object_names (params_of c name) d.objects d.typed in
+                subst (AreObjects (in_print c.hddl) d.objects) (sym (same_rest d).1) own
+
+            typed : (d : Due) → AreTyped (InTypeOf c) params d.objects
+            typed d = subst (λ ps. AreTyped (InTypeOf c) ps d.objects) (sym params_are) d.typed
+
+            pub no_objects : ((objects : List ℕ) → AreObjectsOf objects → ⊥) → IsUnread
+            no_objects none = unread (λ d. none d.objects (words d, typed d))
+
+            pub all_read : (slot : ℕ) (new objects : List ℕ) → IsNamedBy b parts.slot.now slot → AreNamedBy b (texts parts.new.now) new
+                → AreObjectsOf objects → IsReadAs c b step (act_of c name slot new objects)
+            all_read slot new objects first slots args =
+                let new_words = words_are b (texts parts.new.now) new slots in
+                let object_words = objects_printed c objects (texts parts.objects.now) args.0 in
+                is_read c is b name step named.0 named.1 (record {
+                  slot = slot;
+                  new = new;
+                  objects = objects;
+                  within = first.0;
+                  new_within = each_within b (texts parts.new.now) new slots;
+                  many = sym (length-map new slot_word) ∙ ap length (sym new_words) ∙ cut.as_many ∙ many_is;
+                  typed = subst (λ ps. AreTyped (InTypeOf c) ps objects) params_are args.1;
+                  are = cut.are ∙ (λ i. first.1 i ∷ (new_words i ++ object_words i));
+                })

@@ -1,12 +1,10 @@
 -- A step is read as one printed name's act, by its slot, its new slots and its objects.
-use Rattle.std.proofs.Common.{ℕ, zero, suc, ◌≡◌, ◌-◌, false, true≢false, List, [], ◌∷◌, ◌++◌, map, length, get_or, Option, Some, None, slice_get, refl, ap, sym, subst, ◌∙◌, Contains, arith}
-use Rattle.std.specs.Prelude.{codes, nat_eq}
-use Rattle.std.specs.List.{starts_with}
+use Rattle.std.proofs.Common.{ℕ, ◌≡◌, ◌-◌, Option, Some, None, refl, ap, sym, subst, ◌∙◌, arith}
+use Rattle.std.proofs.Common.{List, [], ◌∷◌, ◌++◌, map, length, slice_get, Contains}
 use Rattle.std.specs.Option.{option_map_or}
 use Rattle.std.proofs.Math.Decide.{ℕ_discrete}
 use Rattle.std.proofs.lemmas.List.{length-map, nil_from_length}
 use Rattle.htn_base.specs.Escapes.{slot_word}
-use Rattle.htn_base.proofs.EscapeLemmas.{names_apart}
 use Rattle.plan_model.specs.declared.terms.Param.{Param}
 use Rattle.plan_model.specs.declared.schemas.ActionSchema.{ActionSchema}
 use Rattle.plan_model.specs.declared.schemas.MethodPlan.{MethodPlan}
@@ -17,17 +15,18 @@ use Rattle.plan_model.specs.task_networks.Lawful.{IsLawful}
 use Rattle.plan_model.specs.task_networks.Spelling.{Act, run, apply, others}
 use Rattle.plan_model.specs.plan_meaning.Truth.{AreTyped}
 use Rattle.plan_model.specs.plan_meaning.Network.{action, check, task, GroundMethod, network, InTypeOf, child_of, subtasks_of}
-use Rattle.plan_model.specs.plan_meaning.SpelledPlan.{object_word, action_by, method_by, step_of}
+use Rattle.plan_model.specs.plan_meaning.SpelledPlan.{object_word, step_of}
 use Rattle.plan_model.proofs.task_networks.Lists.{not-in_empty}
 use Rattle.plan_model.proofs.task_networks.OtherChildren.{rest_of}
 use Rattle.slot_machine.proofs.OtherChildren.{length-rest}
 use Rattle.problem_index.specs.declared.printed_index.PrintedName.{PrintedName}
 use Rattle.problem_index.specs.declared.printed_index.PrintedName.TheVariants.{Action, Check, Method}
-use Rattle.problem_index.specs.Printed.{IsThere, word_of, StandsFor, source_word}
+use Rattle.problem_index.specs.Printed.{IsThere, word_of, StandsFor}
 use Rattle.decoding.specs.FailingAct.{slot_in, new_in, IsFormed}
 use Rattle.decoding.specs.PrintedSteps.{HasParams, own_objects, IsNamed, IsReadAs}
 use Rattle.step_reader.specs.Arguments.{params_of, new_slots, IsSlot}
 use Rattle.step_reader.specs.Readings.{act_of, IsReadable}
+use Rattle.step_reader.proofs.NameLaws.{one_name}
 
 -- a method has one child more than others than the heir, or none
 others_long : (N : Net) → IsLawful N → (m : N.Method) → length (others N m) ≡ count N m - 1
@@ -40,9 +39,6 @@ others_long N law m = go (N.heir m) refl
     go None e = elim (ℕ_discrete (count N m) 0) [ yes z ↦ without z | no z ↦ absurd (let x = (law.has_heir m (omega arith)).1 in cc) ]
     go (Some k) e = let l = length-rest k (count N m) (law.heir_is_child m k e) in omega arith
 
-abbrev fifth : List ℕ → ℕ
-fifth word = get_or word 4 0
-
 module _ (c : Compiled) where
   abbrev pub action_params : Option ActionSchema → List Param
   action_params o = option_map_or (λ (s : ActionSchema). s.params) o []
@@ -50,27 +46,40 @@ module _ (c : Compiled) where
   abbrev pub method_params : Option MethodPlan → List Param
   method_params o = option_map_or (λ (plan : MethodPlan). plan.schema.params) o []
 
+  -- a slot, new slots and objects, in words
+  abbrev pub words_of : ℕ → List ℕ → List ℕ → List (List ℕ)
+  words_of slot new objects = slot_word slot ∷ (map slot_word new ++ map (object_word c) objects)
+
   -- the printed name of an act, and its step
   pub record HasName (a : Act (network c)) (params : List Param) (name : PrintedName) : Type 0 where
     pub there : IsThere c name
     pub word : word_of c name ≡ (step_of c a).name
     pub params_are : params_of c name ≡ params
     pub many : (b : ℕ) → IsFormed (network c) b a → length (new_in (network c) a) ≡ new_slots c name
-    pub args : (step_of c a).args ≡ slot_word (slot_in (network c) a) ∷ (map slot_word (new_in (network c) a) ++ map (object_word c) (own_objects c a))
+    pub args : (step_of c a).args ≡ words_of (slot_in (network c) a) (new_in (network c) a) (own_objects c a)
 
-  as_many : IsLawful (network c) → (g : GroundMethod) (plan : MethodPlan) → slice_get c.methods g.number ≡ Some plan → length (others (network c) g) ≡ new_slots c (Method g.number)
-  as_many law g plan at =
-      let children : count (network c) g ≡ length plan.schema.children = ap (λ o. length (option_map_or (subtasks_of g) o [])) at ∙ length-map plan.schema.children (child_of g) in
-      others_long (network c) law g ∙ ap (λ n. n - 1) children ∙ sym (ap (λ o. option_map_or (λ (p : MethodPlan). length p.schema.children - 1) o 0) at)
+  as_many : IsLawful (network c) → (g : GroundMethod) (plan : MethodPlan) → slice_get c.methods g.number ≡ Some plan
+      → length (others (network c) g) ≡ new_slots c (Method g.number)
+  as_many law g plan at = others_long (network c) law g ∙ ap (λ n. n - 1) children ∙ sym (ap due_of at)
+    where
+      children : count (network c) g ≡ length plan.schema.children
+      children = ap (λ o. length (option_map_or (subtasks_of g) o [])) at ∙ length-map plan.schema.children (child_of g)
 
-  name_of : IsLawful (network c) → (a : Act (network c)) (params : List Param) → HasParams c a params → (name : PrintedName) × HasName a params name
+      due_of : Option MethodPlan → ℕ
+      due_of o = option_map_or (λ (p : MethodPlan). length p.schema.children - 1) o 0
+
+  name_of : IsLawful (network c) → (a : Act (network c)) (params : List Param) → HasParams c a params
+      → (name : PrintedName) × HasName a params name
   name_of law (run h (action a args)) params (s, at, is) =
       (Action a, record { there = (s, at); word = refl; params_are = ap action_params at ∙ is; many = λ b f. refl; args = refl })
   name_of law (run h (check m values)) params (plan, at, checked, is) =
-      (Check m, record { there = (plan, at, checked); word = refl; params_are = ap method_params at ∙ is; many = λ b f. refl; args = refl })
+      let params_are = ap method_params at ∙ is in
+      (Check m, record { there = (plan, at, checked); word = refl; params_are = params_are; many = λ b f. refl; args = refl })
   name_of law (run h (task t args)) params has = absurd has
   name_of law (apply h new g) params (plan, at, is) =
-      (Method g.number, record { there = (plan, at); word = refl; params_are = ap method_params at ∙ is; many = λ b f. f.form ∙ as_many law g plan at; args = refl })
+      let params_are = ap method_params at ∙ is in
+      let many = as_many law g plan at in
+      (Method g.number, record { there = (plan, at); word = refl; params_are = params_are; many = λ b f. f.form ∙ many; args = refl })
 
   pub unnamed : IsLawful (network c) → (step : GroundAction) → StandsFor c step.name None → IsNamed c step → ⊥
   unnamed law step none (a, params, has, is) = let (name, h) = name_of law a params has in none name h.there (h.word ∙ sym is)
@@ -81,45 +90,6 @@ module _ (c : Compiled) where
   is_named step (Method m) (plan, at) e = (apply 0 [] (record { number = m; values = [] }), plan.schema.params, (plan, at, refl), sym e)
 
   module _ (is : IsReadable c) where
-    -- an action's word is no generated one
-    no_action : (a : ℕ) (rest word : List ℕ) → IsThere c (Action a) → word_of c (Action a) ≡ word → word ≡ codes "htn_" ++ rest → starts_with nat_eq rest (codes "u_") ≡ false → ⊥
-    no_action a rest word (s, at) e w f = true≢false (sym (names_apart.no_generated (source_word c s.name) rest (sym (ap (action_by c) at) ∙ e ∙ w)) ∙ f)
-
-    same_method : (m n : ℕ) (p q : MethodPlan) → slice_get c.methods (suc m) ≡ Some p → slice_get c.methods (suc n) ≡ Some q
-        → method_by c (slice_get c.methods (suc m)) ≡ method_by c (slice_get c.methods (suc n)) → suc m ≡ suc n
-    same_method m n p q f g e =
-        ap suc (is.apart.methods m n p q f g (names_apart.one_to_one (source_word c p.schema.name) (source_word c q.schema.name) (sym (ap (method_by c) f) ∙ e ∙ ap (method_by c) g)))
-
-    behind : (u v : List ℕ) → codes "htn_m_" ++ u ≡ codes "htn_m_" ++ v → u ≡ v
-    behind u v e = cc
-
-    behind_check : (u v : List ℕ) → codes "htn_c_" ++ u ≡ codes "htn_c_" ++ v → u ≡ v
-    behind_check u v e = cc
-
-    -- two printed names have two words
-    one_name : (p q : PrintedName) → IsThere c p → IsThere c q → word_of c p ≡ word_of c q → p ≡ q
-    one_name (Action a) (Action d) (s, at) (t, on) e =
-        ap Action (is.apart.actions a d s t at on (names_apart.one_to_one (source_word c s.name) (source_word c t.name) (sym (ap (action_by c) at) ∙ e ∙ ap (action_by c) on)))
-    one_name (Check zero) q (plan, at, checked) t e = absurd (is.names.unchecked plan at checked)
-    one_name (Check (suc m)) (Check zero) s (plan, at, checked) e = absurd (is.names.unchecked plan at checked)
-    one_name (Check (suc m)) (Check (suc n)) (p, at, k) (q, on, l) e =
-        ap Check (same_method m n p q at on (behind_check (method_by c (slice_get c.methods (suc m))) (method_by c (slice_get c.methods (suc n))) e))
-    one_name (Method zero) (Method zero) s t e = refl
-    one_name (Method zero) (Method (suc n)) s t e = let f : 115 ≡ 109 = ap fifth e in absurd (omega (arith, f))
-    one_name (Method (suc m)) (Method zero) s t e = let f : 109 ≡ 115 = ap fifth e in absurd (omega (arith, f))
-    one_name (Method (suc m)) (Method (suc n)) (p, at) (q, on) e =
-        ap Method (same_method m n p q at on (behind (method_by c (slice_get c.methods (suc m))) (method_by c (slice_get c.methods (suc n))) e))
-    one_name (Action a) (Check m) s t e = absurd (no_action a (codes "c_" ++ method_by c (slice_get c.methods m)) (word_of c (Check m)) s e refl refl)
-    one_name (Action a) (Method zero) s t e = absurd (no_action a (codes "start") (word_of c (Method zero)) s e refl refl)
-    one_name (Action a) (Method (suc m)) s t e = absurd (no_action a (codes "m_" ++ method_by c (slice_get c.methods (suc m))) (word_of c (Method (suc m))) s e refl refl)
-    one_name (Check (suc m)) (Action a) s t e = absurd (no_action a (codes "c_" ++ method_by c (slice_get c.methods (suc m))) (word_of c (Check (suc m))) t (sym e) refl refl)
-    one_name (Method zero) (Action a) s t e = absurd (no_action a (codes "start") (word_of c (Method zero)) t (sym e) refl refl)
-    one_name (Method (suc m)) (Action a) s t e = absurd (no_action a (codes "m_" ++ method_by c (slice_get c.methods (suc m))) (word_of c (Method (suc m))) t (sym e) refl refl)
-    one_name (Check (suc m)) (Method zero) s t e = let f : 99 ≡ 115 = ap fifth e in absurd (omega (arith, f))
-    one_name (Check (suc m)) (Method (suc n)) s t e = let f : 99 ≡ 109 = ap fifth e in absurd (omega (arith, f))
-    one_name (Method zero) (Check n) s t e = let f : 115 ≡ 99 = ap fifth e in absurd (omega (arith, f))
-    one_name (Method (suc m)) (Check n) s t e = let f : 109 ≡ 99 = ap fifth e in absurd (omega (arith, f))
-
     module _ (b : ℕ) (name : PrintedName) where
       -- the arguments are those that are due for the printed name
       pub record AreDue (args : List (List ℕ)) : Type 0 where
@@ -130,13 +100,14 @@ module _ (c : Compiled) where
         pub new_within : (x : ℕ) → Contains new x → IsSlot b x
         pub many : length new ≡ new_slots c name
         pub typed : AreTyped (InTypeOf c) (params_of c name) objects
-        pub are : args ≡ slot_word slot ∷ (map slot_word new ++ map (object_word c) objects)
+        pub are : args ≡ words_of slot new objects
 
       module _ (step : GroundAction) (there : IsThere c name) (word : word_of c name ≡ step.name) where
         pub due : (a : Act (network c)) → IsReadAs c b step a → AreDue step.args
         due a r =
             let (other, h) = name_of is.lawful a r.params r.has in
-            let same : other ≡ name = one_name other name h.there there (h.word ∙ ap (λ (z : GroundAction). z.name) (sym r.is) ∙ sym word) in
+            let words = h.word ∙ ap (λ (z : GroundAction). z.name) (sym r.is) ∙ sym word in
+            let same = one_name c is.names is.apart other name h.there there words in
             record {
               slot = slot_in (network c) a;
               new = new_in (network c) a;
@@ -152,11 +123,12 @@ module _ (c : Compiled) where
     in_order step other e f = λ i. record { name = e i; args = f i }
 
     -- a run has no new slots
-    no_new : (b : ℕ) (name : PrintedName) (args : List (List ℕ)) (d : AreDue b name args) → new_slots c name ≡ 0 → args ≡ slot_word d.slot ∷ map (object_word c) d.objects
-    no_new b name args d none = d.are ∙ ap (λ slots. slot_word d.slot ∷ (map slot_word slots ++ map (object_word c) d.objects)) (nil_from_length d.new (d.many ∙ none))
+    no_new : (b : ℕ) (name : PrintedName) (args : List (List ℕ)) (d : AreDue b name args) → new_slots c name ≡ 0
+        → args ≡ words_of d.slot [] d.objects
+    no_new b name args d none = d.are ∙ ap (λ slots. words_of d.slot slots d.objects) (nil_from_length d.new (d.many ∙ none))
 
-    pub is_read : (b : ℕ) (name : PrintedName) (step : GroundAction) → IsThere c name → word_of c name ≡ step.name → (d : AreDue b name step.args)
-        → IsReadAs c b step (act_of c name d.slot d.new d.objects)
+    pub is_read : (b : ℕ) (name : PrintedName) (step : GroundAction) → IsThere c name → word_of c name ≡ step.name
+        → (d : AreDue b name step.args) → IsReadAs c b step (act_of c name d.slot d.new d.objects)
     is_read b (Action a) step (s, at) e d = record {
       formed = record { slot = d.within; new = λ x k. absurd (not-in_empty x k); form = tt };
       params = s.params;
@@ -171,10 +143,12 @@ module _ (c : Compiled) where
       typed = subst (λ ps. AreTyped (InTypeOf c) ps d.objects) (ap method_params at) d.typed;
       is = in_order step (step_of c (run d.slot (check m d.objects))) (sym e) (no_new b (Check m) step.args d refl);
     }
-    is_read b (Method m) step (plan, at) e d = record {
-      formed = record { slot = d.within; new = d.new_within; form = d.many ∙ sym (as_many is.lawful (record { number = m; values = d.objects }) plan at) };
-      params = plan.schema.params;
-      has = (plan, at, refl);
-      typed = subst (λ ps. AreTyped (InTypeOf c) ps d.objects) (ap method_params at) d.typed;
-      is = in_order step (step_of c (apply d.slot d.new (record { number = m; values = d.objects }))) (sym e) d.are;
-    }
+    is_read b (Method m) step (plan, at) e d =
+        let g : GroundMethod = record { number = m; values = d.objects } in
+        record {
+          formed = record { slot = d.within; new = d.new_within; form = d.many ∙ sym (as_many is.lawful g plan at) };
+          params = plan.schema.params;
+          has = (plan, at, refl);
+          typed = subst (λ ps. AreTyped (InTypeOf c) ps d.objects) (ap method_params at) d.typed;
+          is = in_order step (step_of c (apply d.slot d.new g)) (sym e) d.are;
+        }

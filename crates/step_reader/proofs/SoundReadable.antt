@@ -1,5 +1,5 @@
 -- What is compiled of a sound problem has steps that can be read.
-use Rattle.std.proofs.Common.{ℕ, zero, suc, ◌≡◌, ◌<◌, ◌^◌, List, [], ◌∷◌, ◌++◌, map, length, true, refl, ap, sym, subst, ◌∙◌, Contains, arith}
+use Rattle.std.proofs.Common.{ℕ, zero, suc, ◌≡◌, ◌<◌, ◌^◌, List, [], ◌∷◌, ◌++◌, map, length, true, refl, ap, sym, subst, Contains, arith}
 use Rattle.htn_base.specs.declared.name.Name.{Name}
 use Rattle.text_forms.specs.Words.{Word, is_name, word_at}
 use Rattle.plan_texts.specs.Declared.{named}
@@ -8,6 +8,7 @@ use Rattle.plan_texts.specs.Printable.{IsPlain}
 use Rattle.plan_texts.specs.SpellsHddl.{task_words, action_words}
 use Rattle.plan_texts.specs.SoundProblem.{IsSoundProblem}
 use Rattle.plan_texts.proofs.SoundProblems.{listed}
+use Rattle.plan_texts.proofs.Members.{each-has, has-to_map, contains-has}
 use Rattle.plan_model.specs.declared.options.Checks.{Checks}
 use Rattle.plan_model.specs.declared.types.Object.{Object}
 use Rattle.plan_model.specs.declared.schemas.ActionSchema.{ActionSchema}
@@ -20,8 +21,9 @@ use Rattle.plan_model.specs.plan_meaning.Laws.{AreOrdered}
 use Rattle.plan_model.specs.plan_meaning.Network.{network}
 use Rattle.plan_model.specs.plan_meaning.Compilation.{AreMethodPlans, IsCompiled}
 use Rattle.plan_model.proofs.task_networks.ScheduleLaws.{prepared_is_lawful}
-use Rattle.plan_model.proofs.plan_meaning.CompiledNetworks.{prepared}
+use Rattle.plan_model.proofs.plan_meaning.CompiledNetworks.{plan_of, prepared}
 use Rattle.problem_index.specs.Printed.{others}
+use Rattle.problem_index.proofs.IndexLaws.{contains_at}
 use Rattle.decoding.proofs.SoundCompiled.{compiled_are_read_in_one_way}
 use Rattle.step_reader.specs.Readings.{IsReadable}
 
@@ -36,48 +38,50 @@ behind P [] ys each = each
 behind P (x ∷ xs) ys each = behind P xs ys each.1
 
 of_mapped : {A B : Type 0} (P : B → Type 0) (f : A → B) (xs : List A) (x : A) → EachIs P (map f xs) → Contains xs x → P (f x)
-of_mapped P f [] x each (k, l, e) = absurd (omega arith)
-of_mapped P f (y ∷ xs) x each (zero, l, e) = subst (λ z. P (f z)) e each.0
-of_mapped P f (y ∷ xs) x each (suc k, l, e) = of_mapped P f xs x each.1 (k, omega arith, e)
+of_mapped P f xs x each c = each-has P (map f xs) (f x) each (has-to_map f xs x (contains-has xs x c))
 
-as_many : (h : Hddl) (mode : Checks) (schemas : List MethodSchema) (plans : List MethodPlan) → AreMethodPlans h mode schemas plans → length plans ≡ length schemas
+as_many : (h : Hddl) (mode : Checks) (schemas : List MethodSchema) (plans : List MethodPlan) → AreMethodPlans h mode schemas plans
+    → length plans ≡ length schemas
 as_many h mode [] [] are = refl
 as_many h mode [] (p ∷ plans) are = absurd are
 as_many h mode (s ∷ schemas) [] are = absurd are
 as_many h mode (s ∷ schemas) (p ∷ plans) are = ap suc (as_many h mode schemas plans are.1)
 
--- the names of compiled methods are those of the written ones
-names_within : (h : Hddl) (mode : Checks) (schemas : List MethodSchema) (plans : List MethodPlan) → AreMethodPlans h mode schemas plans
-    → EachIs IsPlain (map (λ (s : MethodSchema). named h.names s.name) schemas) → (plan : MethodPlan) → Contains plans plan → plan.schema.name.number < length h.names
-names_within h mode [] [] are plain plan (k, l, e) = absurd (omega arith)
-names_within h mode [] (p ∷ plans) are plain plan c = absurd are
-names_within h mode (s ∷ schemas) [] are plain plan c = absurd are
-names_within h mode (s ∷ schemas) (p ∷ plans) are plain plan (zero, l, e) =
-    let name : s.name ≡ plan.schema.name = sym (ap (λ (z : MethodSchema). z.name) are.0.schema) ∙ ap (λ (z : MethodPlan). z.schema.name) e in
-    subst (λ (n : Name). n.number < length h.names) name (plain_within h.names s.name.number plain.0)
-names_within h mode (s ∷ schemas) (p ∷ plans) are plain plan (suc k, l, e) = names_within h mode schemas plans are.1 plain.1 plan (k, omega arith, e)
-
-others_within : (h : Hddl) (mode : Checks) (top : MethodSchema) (schemas : List MethodSchema) (plans : List MethodPlan) → AreMethodPlans h mode (top ∷ schemas) plans
-    → EachIs IsPlain (map (λ (s : MethodSchema). named h.names s.name) schemas) → (plan : MethodPlan) → Contains (others plans) plan → plan.schema.name.number < length h.names
-others_within h mode top schemas [] are plain plan k = absurd are
-others_within h mode top schemas (p ∷ plans) are plain plan k = names_within h mode schemas plans are.1 plain plan k
+others_are : (h : Hddl) (mode : Checks) (top : MethodSchema) (schemas : List MethodSchema) (plans : List MethodPlan)
+    → AreMethodPlans h mode (top ∷ schemas) plans → AreMethodPlans h mode schemas (others plans)
+others_are h mode top schemas [] are = absurd are
+others_are h mode top schemas (p ∷ plans) are = are.1
 
 module _ (h : Hddl) (mode : Checks) (c : Compiled) (sound : IsSoundProblem h) (ordered : AreOrdered h) (is : IsCompiled h mode c) where
   in_table : (n : Name) → n.number < length h.names → n.number < length c.hddl.names
   in_table n l = subst (λ (z : Hddl). n.number < length z.names) (sym is.hddl) l
 
+  abbrev word : Name → Word
+  word = named h.names
+
+  in_problem : {A : Type 0} (of : Hddl → List A) (x : A) → Contains (of c.hddl) x → Contains (of h) x
+  in_problem of x k = subst (λ (z : Hddl). Contains (of z) x) is.hddl k
+
   action_named : (s : ActionSchema) → Contains c.hddl.actions s → s.name.number < length c.hddl.names
-  action_named s k = in_table s.name
-      (plain_within h.names s.name.number
-      (of_mapped IsPlain (λ (x : ActionSchema). named h.names x.name) h.actions s (behind IsPlain (task_words h) (action_words h) sound.value.calls_named) (subst (λ (z : Hddl). Contains z.actions s) is.hddl k)))
+  action_named s k =
+      let plain = behind IsPlain (task_words h) (action_words h) sound.value.calls_named in
+      let own = of_mapped IsPlain (λ (x : ActionSchema). word x.name) h.actions s plain (in_problem (λ z. z.actions) s k) in
+      in_table s.name (plain_within h.names s.name.number own)
 
   object_named : (o : Object) → Contains c.hddl.objects o → o.name.number < length c.hddl.names
-  object_named o k = in_table o.name
-      (plain_within h.names o.name.number
-      (of_mapped IsPlain (λ (x : Object). named h.names x.name) h.objects o sound.value.words.objects (subst (λ (z : Hddl). Contains z.objects o) is.hddl k)))
+  object_named o k =
+      let plain = sound.value.words.objects in
+      let own = of_mapped IsPlain (λ (x : Object). word x.name) h.objects o plain (in_problem (λ z. z.objects) o k) in
+      in_table o.name (plain_within h.names o.name.number own)
 
   method_named : (plan : MethodPlan) → Contains (others c.methods) plan → plan.schema.name.number < length c.hddl.names
-  method_named plan k = in_table plan.schema.name (others_within h mode h.top h.methods c.methods is.methods sound.value.methods_named plan k)
+  method_named plan k =
+      let (i, at) = contains_at (others c.methods) plan k in
+      let are = others_are h mode h.top h.methods c.methods is.methods in
+      let (s, written, m) = plan_of h mode h.methods (others c.methods) i plan are at in
+      let same : s.name ≡ plan.schema.name = sym (ap (λ (z : MethodSchema). z.name) m.schema) in
+      let own = of_mapped IsPlain (λ (x : MethodSchema). word x.name) h.methods s sound.value.methods_named written in
+      in_table plan.schema.name (subst (λ (n : Name). n.number < length h.names) same (plain_within h.names s.name.number own))
 
   -- what an index of the printed words asks
   pub listed_types : AreListed c.hddl.types

@@ -12,9 +12,12 @@ text w = w.now
 abbrev empty : Bor (List ℕ)
 empty = record { ref_ptr = (0, 0); now = [] }
 
+abbrev at : List (Bor (List ℕ)) → ℕ → List ℕ
+at words i = (get_or words i empty).now
+
 -- the word at the place
-at_place : (words : List (Bor (List ℕ))) (i : ℕ) → i < length words → (get_or words i empty).now ≡ get_or (texts words) i (get_or words i empty).now
-at_place words i l = sym (get_or-map text words i empty (get_or words i empty).now l)
+at_place : (words : List (Bor (List ℕ))) (i : ℕ) → i < length words → at words i ≡ get_or (texts words) i (at words i)
+at_place words i l = sym (get_or-map text words i empty (at words i) l)
 
 within : (words : List (Bor (List ℕ))) (i : ℕ) → i < length words → i < length (texts words)
 within words i l = let same = length-map words text in omega (arith, same)
@@ -23,20 +26,25 @@ pub returns-in-None : goal.returns-in-None
 returns-in-None c slots are =
     let words = c.args.words.now in
     let i = c.loop-word.word-index in
-    let w = get_or c.args.words.now c.loop-word.word-index empty in
-    let at = named_at c.args.slots (texts words) slots i w.now (within words i c.loop-word-test.true) are in
-    c.in-None.ensures at.0 (subst (λ v. IsNamedBy c.args.slots v at.0) (sym (at_place words i c.loop-word-test.true)) at.1)
+    let here = c.loop-word-test.true in
+    let (k, is) = named_at c.args.slots (texts words) slots i (at words i) (within words i here) are in
+    c.in-None.ensures k (subst (λ w. IsNamedBy c.args.slots w k) (sym (at_place words i here)) is)
 
 pub loop-word-preserved : goal.loop-word-preserved
 loop-word-preserved c =
+    let b = c.args.slots in
     let words = c.args.words.now in
     let i = c.loop-word.word-index in
-    let w = get_or c.args.words.now c.loop-word.word-index empty in
-    let here = subst (λ v. IsNamedBy c.args.slots v c.in-Some.slot) (at_place words i c.loop-word-test.true) c.in-Some.ensures in
-    let next = named_next c.args.slots (texts words) c.loop-word.into.items i w.now c.in-Some.slot (within words i c.loop-word-test.true) c.loop-word.invariant here in
-    subst (AreNamedBy c.args.slots (take (c.loop-word.word-index + 1) (texts c.args.words.now))) (sym c.in_ok-push-in-Some.ensures.items) next
+    let here = c.loop-word-test.true in
+    let k = c.in-Some.slot in
+    let is = subst (λ w. IsNamedBy b w k) (at_place words i here) c.in-Some.ensures in
+    let next = named_next b (texts words) c.loop-word.into.items i (at words i) k (within words i here) c.loop-word.invariant is in
+    subst (AreNamedBy b (take (i + 1) (texts words))) (sym c.in_ok-push-in-Some.ensures.items) next
 
 pub returns : goal.returns
 returns c =
-    let all : length (texts c.args.words.now) ≤ c.loop-word.word-index = (let same = length-map c.args.words.now text in let l = c.loop-word-test.false in omega (arith, same, l)) in
-    subst (λ ws. AreNamedBy c.args.slots ws c.loop-word.into.items) (take_all c.loop-word.word-index (texts c.args.words.now) all) c.loop-word.invariant
+    let words = texts c.args.words.now in
+    let i = c.loop-word.word-index in
+    let same = length-map c.args.words.now text in
+    let all : length words ≤ i = omega (arith, same, c.loop-word-test.false) in
+    subst (λ ws. AreNamedBy c.args.slots ws c.loop-word.into.items) (take_all i words all) c.loop-word.invariant

@@ -1,13 +1,10 @@
-use Rattle.std.proofs.Common.{Bool, List, ℕ, ◌≤◌, length, sym, subst}
+use Rattle.std.proofs.Common.{List, ◌≤◌, length, sym, subst}
 use Rattle.plan_model.specs.declared.terms.Param.{Param}
-use Rattle.problem_index.specs.declared.index.Index.{Index}
-use Rattle.problem_index.specs.Index.{AreOf}
 use Rattle.problem_index.specs.Printed.{in_print}
 use Rattle.ground_state.specs.Frames.{frame}
-use Rattle.ground_state.specs.Runs.{texts, words_step, AreArguments}
-use Rattle.step_reader.specs.Arguments.{AreTooFew, AreParts, AreTheSlots}
+use Rattle.ground_state.specs.Runs.{words_step}
 use Rattle.step_reader.proofs.ReadLaws.{unnamed}
-use Rattle.step_reader.proofs.PartLaws as laws
+use Rattle.step_reader.proofs.PartLaws.{room_for, are_of, too_few, no_slot, no_new, new_are, no_objects, all_read}
 use Rattle.step_reader.proofs.step.read.Goals as goal
 
 pub returns-in_default-clause-read : goal.returns-in_default-clause-read
@@ -16,51 +13,54 @@ returns-in_default-clause-read c =
 
 pub returns-in_default-of-clause-read : goal.returns-in_default-of-clause-read
 returns-in_default-of-clause-read c =
-    let p = c.args.c.now in
     let step = words_step c.args.name.now c.args.args.now in
-    let few = subst (AreTooFew (texts c.args.args.now)) c.new_slots.ensures c.in_default-of.ensures in
-    laws.unread p c.requires.readable c.args.slots c.in-Some.found step c.in-Some.ensures.0 c.in-Some.ensures.1
-    (laws.too_few p c.requires.readable c.args.slots c.in-Some.found step few)
+    too_few c.args.c.now c.requires.readable c.args.slots c.in-Some.found step c.in-Some.ensures
+    c.new_slots.result c.new_slots.ensures c.in_default-of.ensures
 
 pub returns-in_default-slot_within-clause-read : goal.returns-in_default-slot_within-clause-read
 returns-in_default-slot_within-clause-read c =
-    let p = c.args.c.now in
     let step = words_step c.args.name.now c.args.args.now in
-    let cut = subst (λ n. AreParts (texts c.args.args.now) n c.in-Some-of.parts) c.new_slots.ensures c.in-Some-of.ensures in
-    laws.unread p c.requires.readable c.args.slots c.in-Some.found step c.in-Some.ensures.0 c.in-Some.ensures.1
-    (laws.no_slot p c.requires.readable c.args.slots c.in-Some.found step c.in-Some-of.parts cut c.in_default-slot_within.ensures)
+    no_slot c.args.c.now c.requires.readable c.args.slots c.in-Some.found step c.in-Some.ensures
+    c.new_slots.result c.new_slots.ensures c.in-Some-of.parts c.in-Some-of.ensures c.in_default-slot_within.ensures
 
 pub returns-then-not-branch-clause-read : goal.returns-then-not-branch-clause-read
 returns-then-not-branch-clause-read c =
-    let p = c.args.c.now in
     let step = words_step c.args.name.now c.args.args.now in
-    let cut = subst (λ n. AreParts (texts c.args.args.now) n c.in-Some-of.parts) c.new_slots.ensures c.in-Some-of.ensures in
-    laws.unread p c.requires.readable c.args.slots c.in-Some.found step c.in-Some.ensures.0 c.in-Some.ensures.1
-    (laws.no_new p c.requires.readable c.args.slots c.in-Some.found step c.in-Some-of.parts cut
-    (subst (λ (t : Bool). AreTheSlots c.args.slots (texts c.in-Some-of.parts.new.now) t c.fill_slots.new.into.items) c.if-not-branch.true c.in_ok-fill_slots.ensures))
+    no_new c.args.c.now c.requires.readable c.args.slots c.in-Some.found step c.in-Some.ensures
+    c.new_slots.result c.new_slots.ensures c.in-Some-of.parts c.in-Some-of.ensures
+    c.in_ok-fill_slots.field-0 c.fill_slots.new.into.items c.if-not-branch.true c.in_ok-fill_slots.ensures
 
 pub fill-requires-clause-room : goal.fill-requires-clause-room
 fill-requires-clause-room c =
     let env = frame c.args.env.now in
-    subst (λ (ps : List Param). length ps ≤ env.room) (sym c.params_of.ensures) (laws.room_for c.args.c.now env c.requires.room c.in-Some.found c.in-Some.ensures.0)
+    let enough = room_for c.args.c.now env c.requires.room c.in-Some.found c.in-Some.ensures.0 in
+    subst (λ (ps : List Param). length ps ≤ env.room) (sym c.params_of.ensures) enough
 
 pub returns-then-not-fill-clause-read : goal.returns-then-not-fill-clause-read
 returns-then-not-fill-clause-read c =
     let p = c.args.c.now in
     let step = words_step c.args.name.now c.args.args.now in
-    let cut = subst (λ n. AreParts (texts c.args.args.now) n c.in-Some-of.parts) c.new_slots.ensures c.in-Some-of.ensures in
-    let are = subst (λ (x : Index). AreOf (in_print p.hddl) x c.args.world.now) (sym c.index.ensures) (laws.are_of p c.requires.readable c.args.printed.now c.args.world.now c.requires.own) in
-    laws.unread p c.requires.readable c.args.slots c.in-Some.found step c.in-Some.ensures.0 c.in-Some.ensures.1
-    (laws.no_objects p c.requires.readable c.args.slots c.in-Some.found step c.in-Some-of.parts cut
-    (subst (λ (ps : List Param). (objects : List ℕ) → AreArguments (in_print c.args.c.now.hddl) ps (texts c.in-Some-of.parts.objects.now) objects → ⊥) c.params_of.ensures (c.if-not-fill.ensures.filled (in_print p.hddl) are)))
+    let are = are_of p c.requires.readable c.args.printed.now c.args.world.now c.requires.own c.index.result.now c.index.ensures in
+    no_objects p c.requires.readable c.args.slots c.in-Some.found step c.in-Some.ensures
+    c.new_slots.result c.new_slots.ensures c.in-Some-of.parts c.in-Some-of.ensures
+    c.params_of.result.now c.params_of.ensures (c.if-not-fill.ensures.filled (in_print p.hddl) are)
 
 pub returns-clause-read : goal.returns-clause-read
 returns-clause-read c =
     let p = c.args.c.now in
+    let is = c.requires.readable in
+    let b = c.args.slots in
+    let name = c.in-Some.found in
     let step = words_step c.args.name.now c.args.args.now in
-    let cut = subst (λ n. AreParts (texts c.args.args.now) n c.in-Some-of.parts) c.new_slots.ensures c.in-Some-of.ensures in
-    let are = subst (λ (x : Index). AreOf (in_print p.hddl) x c.args.world.now) (sym c.index.ensures) (laws.are_of p c.requires.readable c.args.printed.now c.args.world.now c.requires.own) in
-    laws.all_read p c.requires.readable c.args.slots c.in-Some.found step c.in-Some-of.parts cut c.in-Some.ensures.0 c.in-Some.ensures.1
-    c.in-Some-slot_within.slot c.fill_slots.new.into.items c.fill.new.env.values.items c.in-Some-slot_within.ensures
-    (subst (λ (t : Bool). AreTheSlots c.args.slots (texts c.in-Some-of.parts.new.now) t c.fill_slots.new.into.items) c.if-not-branch.false c.in_ok-fill_slots.ensures)
-    (subst (λ (ps : List Param). AreArguments (in_print c.args.c.now.hddl) ps (texts c.in-Some-of.parts.objects.now) c.fill.new.env.values.items) c.params_of.ensures (c.if-not-fill.ensures.filled (in_print p.hddl) are))
+    let named = c.in-Some.ensures in
+    let many = c.new_slots.result in
+    let parts = c.in-Some-of.parts in
+    let cut = c.in-Some-of.ensures in
+    let new = c.fill_slots.new.into.items in
+    let found = c.in_ok-fill_slots.field-0 in
+    let many_is = c.new_slots.ensures in
+    let slots = new_are p is b name step named many many_is parts cut found new c.if-not-branch.false c.in_ok-fill_slots.ensures in
+    let are = are_of p is c.args.printed.now c.args.world.now c.requires.own c.index.result.now c.index.ensures in
+    all_read p is b name step named many many_is parts cut c.params_of.result.now c.params_of.ensures
+    c.in-Some-slot_within.slot new c.fill.new.env.values.items c.in-Some-slot_within.ensures slots
+    (c.if-not-fill.ensures.filled (in_print p.hddl) are)
