@@ -1,6 +1,6 @@
 -- A step is read by the parts of its arguments: where one is not as it is due, the step is read as no act.
-use Rattle.std.proofs.Common.{Bool, true, false, ℕ, ◌≡◌, ◌≤◌, List, ◌∷◌, ◌++◌, map, length, ap, sym, subst, ◌∙◌}
-use Rattle.std.proofs.lemmas.List.{length-map}
+use Rattle.std.proofs.Common.{Bool, true, false, ℕ, ◌≡◌, ◌≤◌, List, ◌∷◌, ◌++◌, map, length, refl, ap, sym, subst, ◌∙◌}
+use Rattle.std.proofs.lemmas.List.{length-map, nil_from_length}
 use Rattle.htn_base.specs.Escapes.{slot_word}
 use Rattle.plan_model.specs.declared.terms.Param.{Param}
 use Rattle.plan_model.specs.declared.steps.GroundAction.{GroundAction}
@@ -21,6 +21,7 @@ use Rattle.problem_index.proofs.IndexLaws.{contains_from}
 use Rattle.problem_index.proofs.PrintedArguments.{objects_printed, printed_objects, printed_apart}
 use Rattle.ground_state.specs.Frames.{Frame}
 use Rattle.ground_state.specs.Runs.{texts, AreArguments}
+use Rattle.decoding.specs.FailingAct.{new_in}
 use Rattle.decoding.specs.PrintedSteps.{IsNamed, IsReadAs}
 use Rattle.step_reader.specs.declared.due.Parts.{Parts}
 use Rattle.step_reader.specs.Arguments.{params_of, new_slots, AreTooFew, AreParts, IsNamedBy, AreNamedBy, AreTheSlots}
@@ -90,6 +91,17 @@ module _ (c : Compiled) where
           pub new_are : (found : Bool) (slots : List ℕ) → found ≡ true → AreTheSlots b (texts parts.new.now) found slots
               → AreNamedBy b (texts parts.new.now) slots
           new_are found slots e are = subst (λ (t : Bool). AreTheSlots b (texts parts.new.now) t slots) e are
+
+          -- an action and a check have no new slots
+          pub all_new : (slot : ℕ) (new objects : List ℕ) → AreNamedBy b (texts parts.new.now) new
+              → new_in (network c) (act_of c name slot new objects) ≡ new
+          all_new slot new objects slots = go name
+              (sym (length-map new slot_word) ∙ ap length (sym (words_are b (texts parts.new.now) new slots)) ∙ cut.as_many ∙ many_is)
+            where
+              go : (n : PrintedName) → length new ≡ new_slots c n → new_in (network c) (act_of c n slot new objects) ≡ new
+              go (Action a) e = sym (nil_from_length new e)
+              go (Check m) e = sym (nil_from_length new e)
+              go (Method m) e = refl
 
           module _ (params : List Param) (params_are : params ≡ params_of c name) where
             abbrev pub AreObjectsOf : List ℕ → Type 0

@@ -16,6 +16,7 @@ use Rattle.problem_index.specs.Kinds.{IsWorld}
 use Rattle.problem_index.specs.Printed.{IsPrintedIndex, HasPrintedNames}
 use Rattle.ground_state.specs.Frames.{Frame}
 use Rattle.ground_state.specs.Needs.{HasRoomForCompiled}
+use Rattle.decoding.specs.FailingAct.{new_in}
 use Rattle.decoding.specs.PrintedSteps.{IsNamed, IsReadAs, AreNamedApart}
 use Rattle.step_reader.specs.declared.answer.Read.{Read}
 use Rattle.step_reader.specs.declared.answer.Read.TheVariants.{Unnamed, Unread, Act}
@@ -32,6 +33,12 @@ module _ (c : Compiled) where
   IsReading b step Unnamed new objects = IsNamed c step → ⊥
   IsReading b step Unread new objects = IsNamed c step × ((a : Spellings.Act (network c)) → IsReadAs c b step a → ⊥)
   IsReading b step (Act name slot) new objects = IsReadAs c b step (act_of name slot new objects)
+
+  -- the act has these new slots
+  abbrev pub HasNew : Read → List ℕ → List ℕ → Type 0
+  HasNew Unnamed new objects = Unit {0}
+  HasNew Unread new objects = Unit {0}
+  HasNew (Act name slot) new objects = new_in (network c) (act_of name slot new objects) ≡ new
 
   -- what is asked of the problem: names are those of its table, words are apart, and a method with children has one of them as its heir
   pub record IsReadable : Type 0 where

@@ -28,6 +28,7 @@ pub fn read(
     requires room { spec.HasRoomIn c.now (frame env.old) }
     ensures read { IfOk result (λ answer.
         spec.IsReading c.now slots (words_step name.now args.now) answer new.new.items (frame env.new).objects) }
+    ensures new { IfOk result (λ answer. spec.HasNew c.now answer new.new.items (frame env.new).objects) }
     ensures room { IsAsRoomy (frame env.old) (frame env.new) }
 {
     let Some(found) = printed.find(c, name) else {

@@ -4,7 +4,7 @@ use Rattle.problem_index.specs.Printed.{in_print}
 use Rattle.ground_state.specs.Frames.{frame}
 use Rattle.ground_state.specs.Runs.{words_step}
 use Rattle.step_reader.proofs.ReadLaws.{unnamed}
-use Rattle.step_reader.proofs.PartLaws.{room_for, are_of, too_few, no_slot, no_new, new_are, no_objects, all_read}
+use Rattle.step_reader.proofs.PartLaws.{room_for, are_of, too_few, no_slot, no_new, new_are, no_objects, all_new, all_read}
 use Rattle.step_reader.proofs.step.read.Goals as goal
 
 pub returns-in_default-clause-read : goal.returns-in_default-clause-read
@@ -64,3 +64,20 @@ returns-clause-read c =
     all_read p is b name step named many many_is parts cut c.params_of.result.now c.params_of.ensures
     c.in-Some-slot_within.slot new c.fill.new.env.values.items c.in-Some-slot_within.ensures slots
     (c.if-not-fill.ensures.filled (in_print p.hddl) are)
+
+pub returns-clause-new : goal.returns-clause-new
+returns-clause-new c =
+    let p = c.args.c.now in
+    let is = c.requires.readable in
+    let b = c.args.slots in
+    let name = c.in-Some.found in
+    let step = words_step c.args.name.now c.args.args.now in
+    let named = c.in-Some.ensures in
+    let many = c.new_slots.result in
+    let parts = c.in-Some-of.parts in
+    let cut = c.in-Some-of.ensures in
+    let new = c.fill_slots.new.into.items in
+    let found = c.in_ok-fill_slots.field-0 in
+    let many_is = c.new_slots.ensures in
+    let slots = new_are p is b name step named many many_is parts cut found new c.if-not-branch.false c.in_ok-fill_slots.ensures in
+    all_new p is b name step named many many_is parts cut c.in-Some-slot_within.slot new c.fill.new.env.values.items slots

@@ -1,0 +1,5 @@
+-- What a decoder stands on: laws of its problem, of its steps and of their end.
+pub mod Sound
+pub mod Steps
+pub mod Grown
+pub mod Ends
