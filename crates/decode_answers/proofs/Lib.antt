@@ -1,0 +1,11 @@
+pub mod AlikeFailures
+pub mod Once
+pub mod AlikeValues
+pub mod AlikeReaders
+pub mod AlikeShown
+pub mod Alike
+pub mod SomehowTruth
+pub mod SomehowSearched
+pub mod SomehowStates
+pub mod SomehowRead
+pub mod Somehow

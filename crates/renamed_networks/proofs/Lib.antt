@@ -1,0 +1,2 @@
+pub mod RenamedTrees
+pub mod RenamedRuns
