@@ -1,5 +1,6 @@
 -- A front that can grow by an act may take it, and has then grown by it.
 use Rattle.std.proofs.Common.{ℕ, ◌≡◌, ◌+◌, ◌≤◌, ◌<◌, ◌^◌, List, [], ◌∷◌, ◌++◌, length, map, Option, Contains, refl, ap, sym, subst, ◌∙◌, arith}
+use Rattle.std.specs.Prelude.{Result, Ok, Err, OnOk}
 use Rattle.std.proofs.lemmas.List.{map-append, length-append}
 use Rattle.htn_base.specs.Limits.{most_slots, most_steps}
 use Rattle.plan_model.specs.declared.values.Compiled.{Compiled}
@@ -66,3 +67,8 @@ module _ (c : Compiled) (name : PrintedName) (slot : ℕ) (new objects : List �
         short = (let e = ap length g.2 ∙ length-append front.growths _ in omega arith);
         labelled = labelled;
       }
+
+-- three facts of an `Ok` give another
+pub on_ok_three : {T E A B C D : Type 0} (r : Result T E) → (A → B → C → D) → OnOk r A → OnOk r B → OnOk r C → OnOk r D
+on_ok_three (Ok x) f a b c = f a b c
+on_ok_three (Err e) f a b c = tt

@@ -1,5 +1,6 @@
 -- What a decoder does at a step, whatever was taken before.
 use Rattle.std.proofs.Common.{ℕ, ◌≡◌, ◌+◌, ◌≤◌, ◌<◌, ◌^◌, List, [], ◌∷◌, ◌++◌, length, map, Option, Some, None, MatchOption, Contains, refl, ap, sym, subst, ◌∙◌, arith}
+use Rattle.std.proofs.lemmas.List.{length-map}
 use Rattle.htn_base.specs.Limits.{most_slots, most_steps}
 use Rattle.htn_base.specs.Different.{AreDifferent}
 use Rattle.plan_model.specs.declared.steps.GroundAction.{GroundAction}
@@ -8,25 +9,29 @@ use Rattle.plan_model.specs.task_networks.Net.{Net}
 use Rattle.plan_model.specs.task_networks.Spelling.{Act, label_of}
 use Rattle.plan_model.specs.plan_meaning.Network.{network}
 use Rattle.plan_model.specs.plan_meaning.Solution.{next}
+use Rattle.plan_texts.specs.SoundlyCompiled.{IsSoundlyCompiled}
 use Rattle.problem_index.specs.declared.printed_index.PrintedName.{PrintedName}
 use Rattle.problem_index.specs.declared.printed_index.PrintedName.TheVariants.{Action, Check, Method}
 use Rattle.ground_state.specs.Frames.{Frame, frame}
 use Rattle.ground_state.specs.Runs.{IsAsRoomy}
-use Rattle.ground_state.specs.States.{has_ground}
+use Rattle.ground_state.specs.States.{has_ground, Has}
 use Rattle.ground_state.specs.declared.state.State.{State}
+use Rattle.tree_core.specs.declared.growth.Growth.{Growth}
+use Rattle.tree_core.specs.Labels.{growths_of, labelled_growth}
 use Rattle.decoding.specs.declared.causes.Why.{Why}
 use Rattle.decoding.specs.declared.causes.Why.TheVariants.{UnknownAction, Arguments}
+use Rattle.decoding.specs.FailingAct.{new_in}
 use Rattle.decoding.specs.PrintedSteps.{IsNamed, IsReadAs}
 use Rattle.decoding.specs.TakenSteps.{true_of, IsSameState}
 use Rattle.decoding.specs.TakenLaws.{StepTells}
-use Rattle.decoding.proofs.TakenFronts.{taken_tells, one_more_taken}
+use Rattle.decoding.proofs.TakenFronts.{taken_at_first, taken_tells, one_more_taken}
 use Rattle.kept_front.specs.declared.front.Front.{Front}
-use Rattle.kept_front.specs.Fronts.{kept}
+use Rattle.kept_front.specs.Fronts.{kept, growth_in, IsFirstOf}
 use Rattle.step_reader.specs.Readings.{act_of, HasRoomIn}
 use Rattle.tree_decoder.specs.declared.testing.Scratch.{Scratch}
 use Rattle.tree_decoder.specs.declared.decoder.Decoder.{Decoder}
-use Rattle.tree_decoder.specs.Decoding.{AreBehind, IsReady, HasTaken, FailsHere, Takes}
-use Rattle.tree_decoder.specs.Acts.{act_in, label_with, IsObstacle}
+use Rattle.tree_decoder.specs.Decoding.{AreBehind, AreLabelled, IsReady, HasTaken, FailsHere, Takes}
+use Rattle.tree_decoder.specs.Acts.{act_in, AreNewNoted, label_with, StaysNoted, IsObstacle}
 use Rattle.tree_decoder.specs.Taking.{IsReadNow, IsRead, TakesAct, CanGrow, CanGrowSome, IsGrownBy, IsAfter}
 use Rattle.tree_decoder.proofs.Sound.{lawful, sound_steps}
 
@@ -104,6 +109,14 @@ label_same c (Action a) slot new objects = refl
 label_same c (Check m) slot new objects = refl
 label_same c (Method m) slot new objects = refl
 
+-- and stays as long as what is noted does
+module _ (c : Compiled) (name : PrintedName) (slot : ℕ) (old new : Scratch) (noted : StaysNoted old new) where
+  pub same_act : act_in c name slot new ≡ act_in c name slot old
+  same_act = λ i. act_of c name slot (noted.slots i) (noted.objects i).objects
+
+  pub same_new : AreNewNoted c name slot old → AreNewNoted c name slot new
+  same_new e = ap (new_in (network c)) same_act ∙ e ∙ sym noted.slots
+
 module _ (old : Decoder) (ready : IsReady old) (name : PrintedName) (slot : ℕ) where
   abbrev p : Compiled
   p = old.c.now
@@ -165,3 +178,19 @@ module _ (old : Decoder) (ready : IsReady old) (name : PrintedName) (slot : ℕ)
                 };
                 behind = longer;
               }
+
+-- at first nothing is taken
+module _ (c : Compiled) (soundly : IsSoundlyCompiled c) (b : ℕ) (some : 1 ≤ b) (front : Front) (state : State) (first : IsFirstOf c front)
+    (has : Has state (Contains c.hddl.init)) where
+  pub none_behind : AreBehind c b [] front state
+  none_behind = taken_at_first c (lawful c soundly) b (kept c front) (has_ground state) some first has
+
+  pub none_labelled : AreLabelled c front
+  none_labelled = go front.growths first.growths
+    where
+      go : (gs : List Growth) → map (growth_in c) gs ≡ [] → growths_of gs ≡ map (labelled_growth c) (map (growth_in c) gs)
+      go [] e = refl
+      go (g ∷ gs) e = absurd cc
+
+  pub none_long : length front.growths ≤ most_steps
+  none_long = let e = sym (length-map front.growths (growth_in c)) ∙ ap length first.growths in omega arith
