@@ -1,5 +1,5 @@
 -- What a solution's growths are decoded to: its tree, its schedule, and the slots of its nodes.
-use Rattle.std.proofs.Common.{ℕ, zero, suc, ◌≡◌, ◌+◌, ◌≤◌, ◌<◌, List, [], ◌∷◌, map, length, Option, Some, None, MatchOption, option_map, slice_get, refl, ap, sym, subst, ◌∙◌, arith}
+use Rattle.std.proofs.Common.{ℕ, suc, ◌≡◌, ◌+◌, List, [], ◌∷◌, map, length, Option, Some, None, MatchOption, option_map, slice_get, refl, ap, sym, subst, ◌∙◌, arith}
 use Rattle.std.specs.Prelude.{IsSome}
 use Rattle.std.proofs.lemmas.List.{length-map}
 use Rattle.std.proofs.lemmas.Option.{slice_get-map}
@@ -59,7 +59,8 @@ module _ (c : Compiled) (b : ℕ) (steps : List GroundAction) (front : Front) (s
       go : (o : Option ℕ) → IsUnder N s.order k o g.child p → slot_under front o g.child ≡ s.slot p
       go None u = sym (ap s.slot u ∙ s.root)
       go (Some x) (l, (q, on, is)) =
-          let address : IsAddress N s.tree (g.child ∷ q) = ((growth_in c g).label, subst (λ z. label_at N s.tree z ≡ Some (growth_in c g).label) is (s.grown.growths_are.labels k (growth_in c g) p at f)) in
+          let labelled = subst (λ z. label_at N s.tree z ≡ Some (growth_in c g).label) is (s.grown.growths_are.labels k (growth_in c g) p at f) in
+          let address : IsAddress N s.tree (g.child ∷ q) = ((growth_in c g).label, labelled) in
           let (m, used) = parent_label N s.tree g.child q address in
           let below = address_child N s.tree q m g.child s.solution.finished.front.grown used address in
           s.child_slots x q m g.child on used below ∙ ap s.slot (sym is)
@@ -71,7 +72,8 @@ module _ (c : Compiled) (b : ℕ) (steps : List GroundAction) (front : Front) (s
     slot = s.slot;
     spelled = s.spelled;
     solution = s.solution;
-    stands = runs_stand_for_trees c (growths_in c front) s.tree s.order decoded.run s.grown (subst (λ gs. IsRun gs decoded.run) labelled h.run);
+    stands = runs_stand_for_trees c (growths_in c front) s.tree s.order decoded.run s.grown
+        (subst (λ gs. IsRun gs decoded.run) labelled h.run);
     slots_are = h.slots
         ∙ same_maps (λ (g : Growth). slot_under front g.parent g.child) s.slot front.growths s.order
         (s.grown.growths_are.many ∙ length-map front.growths (growth_in c)) slot_at;
@@ -94,8 +96,10 @@ module _ (decoder : Decoder) (ready : IsReady decoder) where
   Left c b steps found = MatchOption found (IsSolvedBy c b steps (kept c decoder.front)) (FailsAt c b steps (length steps + 1))
 
   left_own : (found : Option Why)
-      → ((steps : List GroundAction) → AreBehind p decoder.slots steps decoder.front decoder.state → Left p decoder.slots steps found) → IsLeft decoder found
-  left_own found own c b steps h = subst (λ z. Left z b steps found) h.problem (subst (λ n. Left p n steps found) h.slots (own steps behind))
+      → ((steps : List GroundAction) → AreBehind p decoder.slots steps decoder.front decoder.state → Left p decoder.slots steps found)
+      → IsLeft decoder found
+  left_own found own c b steps h =
+      subst (λ z. Left z b steps found) h.problem (subst (λ n. Left p n steps found) h.slots (own steps behind))
     where
       behind : AreBehind p decoder.slots steps decoder.front decoder.state
       behind = subst (λ n. AreBehind p n steps decoder.front decoder.state) (sym h.slots)
@@ -130,9 +134,11 @@ module _ (decoder : Decoder) (ready : IsReady decoder) where
 module _ (decoder : Decoder) where
   pub finishes : (decoded : Decoded) → IsLeft decoder None → HasTree decoder.front decoded → Finishes decoder decoded
   finishes decoded left tree c b steps h =
-      is_decoded c b steps decoder.front (left c b steps h) (subst (λ z. AreLabelled z decoder.front) h.problem h.ready.labelled) decoded tree
+      let labelled = subst (λ z. AreLabelled z decoder.front) h.problem h.ready.labelled in
+      is_decoded c b steps decoder.front (left c b steps h) labelled decoded tree
 
-  pub leaves : (step : ℕ) (why : Why) → step ≡ length decoder.front.growths + 1 → IsLeft decoder (Some why) → Leaves decoder (NotAPlan step why)
+  pub leaves : (step : ℕ) (why : Why) → step ≡ length decoder.front.growths + 1 → IsLeft decoder (Some why)
+      → Leaves decoder (NotAPlan step why)
   leaves step why e left c b steps h =
       let same = growths_are_steps c b decoder.front steps (true_of c (has_ground decoder.state)) h.behind in
       subst (λ n. FailsAt c b steps n why) (omega arith) (left c b steps h)

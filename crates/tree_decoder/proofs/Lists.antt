@@ -23,7 +23,8 @@ module _ (c : Compiled) (b : ℕ) (steps : List GroundAction) where
     pub fails_there : (why : Why) → FailsHere c b (take i steps) step why → FailsAt c b steps (i + 1) why
     fails_there why f =
         let all : take i steps ++ step ∷ drop (i + 1) steps ≡ steps =
-        sym (append_assoc (take i steps) (step ∷ []) (drop (i + 1) steps)) ∙ ap (λ t. t ++ drop (i + 1) steps) (sym more) ∙ take-append-drop (i + 1) steps in
+        sym (append_assoc (take i steps) (step ∷ []) (drop (i + 1) steps))
+        ∙ ap (λ t. t ++ drop (i + 1) steps) (sym more) ∙ take-append-drop (i + 1) steps in
         let k : length (take i steps) ≡ i = length-take-le i steps (omega arith) in
         subst (λ n. FailsAt c b steps (n + 1) why) k
         (subst (λ s. FailsAt c b s (length (take i steps) + 1) why) all (f (drop (i + 1) steps)))

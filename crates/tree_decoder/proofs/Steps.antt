@@ -1,11 +1,9 @@
 -- What a decoder does at a step, whatever was taken before.
-use Rattle.std.proofs.Common.{ℕ, ◌≡◌, ◌+◌, ◌≤◌, ◌<◌, ◌^◌, List, [], ◌∷◌, ◌++◌, length, map, Option, Some, None, MatchOption, Contains, refl, ap, sym, subst, ◌∙◌, arith}
+use Rattle.std.proofs.Common.{ℕ, ◌≡◌, ◌+◌, ◌≤◌, List, [], ◌∷◌, ◌++◌, length, map, Option, Some, None, MatchOption, Contains, refl, ap, sym, subst, ◌∙◌, arith}
 use Rattle.std.proofs.lemmas.List.{length-map}
-use Rattle.htn_base.specs.Limits.{most_slots, most_steps}
-use Rattle.htn_base.specs.Different.{AreDifferent}
+use Rattle.htn_base.specs.Limits.{most_steps}
 use Rattle.plan_model.specs.declared.steps.GroundAction.{GroundAction}
 use Rattle.plan_model.specs.declared.values.Compiled.{Compiled}
-use Rattle.plan_model.specs.task_networks.Net.{Net}
 use Rattle.plan_model.specs.task_networks.Spelling.{Act, label_of}
 use Rattle.plan_model.specs.plan_meaning.Network.{network}
 use Rattle.plan_model.specs.plan_meaning.Solution.{next}
@@ -46,7 +44,8 @@ takes_own step old new found own c b steps h = subst (λ z. Answer z b) h.proble
     Answer z n = MatchOption found (HasTaken z n (steps ++ step ∷ []) new) (FailsHere z n steps step)
 
     behind : AreBehind old.c.now old.slots steps old.front old.state
-    behind = subst (λ n. AreBehind old.c.now n steps old.front old.state) (sym h.slots) (subst (λ z. AreBehind z b steps old.front old.state) (sym h.problem) h.behind)
+    behind = subst (λ n. AreBehind old.c.now n steps old.front old.state) (sym h.slots)
+        (subst (λ z. AreBehind z b steps old.front old.state) (sym h.problem) h.behind)
 
 module _ (old new : Decoder) (ready : IsReady old) (step : GroundAction) where
   abbrev c : Compiled
@@ -55,7 +54,8 @@ module _ (old new : Decoder) (ready : IsReady old) (step : GroundAction) where
   tells : (steps : List GroundAction) → AreBehind c old.slots steps old.front old.state
       → StepTells c old.slots steps (kept c old.front) (true_of c (has_ground old.state)) step
   tells steps behind =
-      taken_tells c (lawful c ready.soundly) old.slots steps (kept c old.front) (has_ground old.state) step (sound_steps c ready.soundly old.slots ready.few) behind
+      taken_tells c (lawful c ready.soundly) old.slots steps (kept c old.front) (has_ground old.state) step
+      (sound_steps c ready.soundly old.slots ready.few) behind
 
   pub unnamed : (IsNamed c step → ⊥) → Takes step old new (Some UnknownAction)
   unnamed n = takes_own step old new (Some UnknownAction) (λ steps behind. (tells steps behind).unnamed n)
@@ -153,14 +153,16 @@ module _ (old : Decoder) (ready : IsReady old) (name : PrintedName) (slot : ℕ)
           → IsAsRoomy (frame old.scratch.env) (frame scratch.env) → TakesAct name slot old after None
       takes_by grown next_state same step read = takes_own step old after None taken
         where
-          taken : (steps : List GroundAction) → AreBehind p old.slots steps old.front old.state → HasTaken p old.slots (steps ++ step ∷ []) after
+          taken : (steps : List GroundAction) → AreBehind p old.slots steps old.front old.state
+              → HasTaken p old.slots (steps ++ step ∷ []) after
           taken steps behind =
               let can = o old.slots steps step ready.few behind read in
               let keeps = grown.front old.slots behind.acts (grows steps step behind read) in
               let reached : IsSameState p (true_of p (has_ground state)) (next p (true_of p (has_ground old.state)) (label_of (network p) a)) =
               subst (λ l. IsSameState p (true_of p (has_ground state)) (next p (true_of p (has_ground old.state)) l))
               (label_same p name slot old.scratch.new_slots.items (frame old.scratch.env).objects) next_state in
-              let longer = one_more_taken p old.slots steps (kept p old.front) (kept p front) (has_ground old.state) (has_ground state) step a behind read can.allowed keeps reached in
+              let longer = one_more_taken p old.slots steps (kept p old.front) (kept p front) (has_ground old.state) (has_ground state)
+              step a behind read can.allowed keeps reached in
               record {
                 problem = refl;
                 slots = refl;

@@ -1,8 +1,6 @@
 use Rattle.std.proofs.Common.{refl, ap, sym, subst, ◌∙◌}
 use Rattle.std.specs.Option.{option_copied}
 use Rattle.std.proofs.lemmas.Result.{on_ok_weaker}
-use Rattle.problem_index.specs.declared.printed_index.PrintedName.{PrintedName}
-use Rattle.problem_index.specs.declared.printed_index.PrintedName.TheVariants.{Action}
 use Rattle.ground_state.specs.Frames.{frame}
 use Rattle.tree_decoder.specs.Acts.{IsNamedWith}
 use Rattle.tree_decoder.specs.Taking.{IsAfter}

@@ -1,4 +1,4 @@
-use Rattle.std.proofs.Common.{◌≡◌, ◌<◌, ◌^◌, length, ap, sym, subst, ◌∙◌, arith}
+use Rattle.std.proofs.Common.{◌≡◌, ◌<◌, length, ap, sym, subst, arith}
 use Rattle.htn_base.specs.Limits.{most_steps}
 use Rattle.ground_state.specs.Frames.{frame}
 use Rattle.kept_front.specs.Fronts.{MayTakeAt, MayTakeSome}

@@ -1,4 +1,4 @@
-use Rattle.std.proofs.Common.{None, ap, length, sym, subst, ◌∙◌, arith}
+use Rattle.std.proofs.Common.{ap, length, subst, ◌∙◌, arith}
 use Rattle.kept_front.specs.declared.front.Front.{Front}
 use Rattle.tree_decoder.specs.Decoding.{IsLeft, HasTree}
 use Rattle.tree_decoder.proofs.Ends.{finishes, leaves}

@@ -1,7 +1,7 @@
-use Rattle.std.proofs.Common.{◌≡◌, IsTrue, ap, sym, subst, refl, ◌∙◌, true≢false}
+use Rattle.std.proofs.Common.{ap, sym, subst, refl, ◌∙◌, true≢false}
 use Rattle.problem_index.specs.declared.index.Index.{Index}
 use Rattle.problem_index.specs.Kinds.{AreKinds}
-use Rattle.ground_state.specs.Frames.{Frame, frame}
+use Rattle.ground_state.specs.Frames.{Frame}
 use Rattle.ground_state.specs.Room.{Fits}
 use Rattle.tree_decoder.specs.Acts.{IsWorldOf}
 use Rattle.tree_decoder.proofs.Sound.{listed_types, few_objects}

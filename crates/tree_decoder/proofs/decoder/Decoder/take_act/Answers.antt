@@ -1,7 +1,7 @@
-use Rattle.std.proofs.Common.{None, ap, sym, subst, ◌∙◌}
+use Rattle.std.proofs.Common.{ap, sym, subst, ◌∙◌}
 use Rattle.problem_index.specs.declared.index.Index.{Index}
 use Rattle.problem_index.specs.Kinds.{AreKinds}
-use Rattle.ground_state.specs.Frames.{Frame, frame}
+use Rattle.ground_state.specs.Frames.{Frame}
 use Rattle.decoding.specs.PrintedSteps.{IsReadAs}
 use Rattle.kept_front.specs.Later.{AreAllLater}
 use Rattle.step_reader.specs.Readings.{act_of, HasRoomIn}
