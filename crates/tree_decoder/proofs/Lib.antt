@@ -2,4 +2,6 @@
 pub mod Sound
 pub mod Steps
 pub mod Grown
+pub mod Effects
+pub mod Lists
 pub mod Ends

@@ -1,32 +1,35 @@
 -- What a decoder does at a step, whatever was taken before.
-use Rattle.std.proofs.Common.{ℕ, ◌≡◌, ◌+◌, ◌≤◌, ◌<◌, ◌^◌, List, [], ◌∷◌, ◌++◌, length, map, Option, Some, None, MatchOption, Contains, refl, ap, sym, subst, ◌∙◌, arith}
-use Rattle.htn_base.specs.Limits.{most_slots, most_steps}
-use Rattle.htn_base.specs.Different.{AreDifferent}
+use Rattle.std.proofs.Common.{ℕ, ◌≡◌, ◌+◌, ◌≤◌, List, [], ◌∷◌, ◌++◌, length, map, Option, Some, None, MatchOption, Contains, refl, ap, sym, subst, ◌∙◌, arith}
+use Rattle.std.proofs.lemmas.List.{length-map}
+use Rattle.htn_base.specs.Limits.{most_steps}
 use Rattle.plan_model.specs.declared.steps.GroundAction.{GroundAction}
 use Rattle.plan_model.specs.declared.values.Compiled.{Compiled}
-use Rattle.plan_model.specs.task_networks.Net.{Net}
 use Rattle.plan_model.specs.task_networks.Spelling.{Act, label_of}
 use Rattle.plan_model.specs.plan_meaning.Network.{network}
 use Rattle.plan_model.specs.plan_meaning.Solution.{next}
+use Rattle.plan_texts.specs.SoundlyCompiled.{IsSoundlyCompiled}
 use Rattle.problem_index.specs.declared.printed_index.PrintedName.{PrintedName}
 use Rattle.problem_index.specs.declared.printed_index.PrintedName.TheVariants.{Action, Check, Method}
 use Rattle.ground_state.specs.Frames.{Frame, frame}
 use Rattle.ground_state.specs.Runs.{IsAsRoomy}
-use Rattle.ground_state.specs.States.{has_ground}
+use Rattle.ground_state.specs.States.{has_ground, Has}
 use Rattle.ground_state.specs.declared.state.State.{State}
+use Rattle.tree_core.specs.declared.growth.Growth.{Growth}
+use Rattle.tree_core.specs.Labels.{growths_of, labelled_growth}
 use Rattle.decoding.specs.declared.causes.Why.{Why}
 use Rattle.decoding.specs.declared.causes.Why.TheVariants.{UnknownAction, Arguments}
+use Rattle.decoding.specs.FailingAct.{new_in}
 use Rattle.decoding.specs.PrintedSteps.{IsNamed, IsReadAs}
 use Rattle.decoding.specs.TakenSteps.{true_of, IsSameState}
 use Rattle.decoding.specs.TakenLaws.{StepTells}
-use Rattle.decoding.proofs.TakenFronts.{taken_tells, one_more_taken}
+use Rattle.decoding.proofs.TakenFronts.{taken_at_first, taken_tells, one_more_taken}
 use Rattle.kept_front.specs.declared.front.Front.{Front}
-use Rattle.kept_front.specs.Fronts.{kept}
+use Rattle.kept_front.specs.Fronts.{kept, growth_in, IsFirstOf}
 use Rattle.step_reader.specs.Readings.{act_of, HasRoomIn}
 use Rattle.tree_decoder.specs.declared.testing.Scratch.{Scratch}
 use Rattle.tree_decoder.specs.declared.decoder.Decoder.{Decoder}
-use Rattle.tree_decoder.specs.Decoding.{AreBehind, IsReady, HasTaken, FailsHere, Takes}
-use Rattle.tree_decoder.specs.Acts.{act_in, label_with, IsObstacle}
+use Rattle.tree_decoder.specs.Decoding.{AreBehind, AreLabelled, IsReady, HasTaken, FailsHere, Takes}
+use Rattle.tree_decoder.specs.Acts.{act_in, AreNewNoted, label_with, StaysNoted, IsObstacle}
 use Rattle.tree_decoder.specs.Taking.{IsReadNow, IsRead, TakesAct, CanGrow, CanGrowSome, IsGrownBy, IsAfter}
 use Rattle.tree_decoder.proofs.Sound.{lawful, sound_steps}
 
@@ -41,7 +44,8 @@ takes_own step old new found own c b steps h = subst (λ z. Answer z b) h.proble
     Answer z n = MatchOption found (HasTaken z n (steps ++ step ∷ []) new) (FailsHere z n steps step)
 
     behind : AreBehind old.c.now old.slots steps old.front old.state
-    behind = subst (λ n. AreBehind old.c.now n steps old.front old.state) (sym h.slots) (subst (λ z. AreBehind z b steps old.front old.state) (sym h.problem) h.behind)
+    behind = subst (λ n. AreBehind old.c.now n steps old.front old.state) (sym h.slots)
+        (subst (λ z. AreBehind z b steps old.front old.state) (sym h.problem) h.behind)
 
 module _ (old new : Decoder) (ready : IsReady old) (step : GroundAction) where
   abbrev c : Compiled
@@ -50,7 +54,8 @@ module _ (old new : Decoder) (ready : IsReady old) (step : GroundAction) where
   tells : (steps : List GroundAction) → AreBehind c old.slots steps old.front old.state
       → StepTells c old.slots steps (kept c old.front) (true_of c (has_ground old.state)) step
   tells steps behind =
-      taken_tells c (lawful c ready.soundly) old.slots steps (kept c old.front) (has_ground old.state) step (sound_steps c ready.soundly old.slots ready.few) behind
+      taken_tells c (lawful c ready.soundly) old.slots steps (kept c old.front) (has_ground old.state) step
+      (sound_steps c ready.soundly old.slots ready.few) behind
 
   pub unnamed : (IsNamed c step → ⊥) → Takes step old new (Some UnknownAction)
   unnamed n = takes_own step old new (Some UnknownAction) (λ steps behind. (tells steps behind).unnamed n)
@@ -104,6 +109,14 @@ label_same c (Action a) slot new objects = refl
 label_same c (Check m) slot new objects = refl
 label_same c (Method m) slot new objects = refl
 
+-- and stays as long as what is noted does
+module _ (c : Compiled) (name : PrintedName) (slot : ℕ) (old new : Scratch) (noted : StaysNoted old new) where
+  pub same_act : act_in c name slot new ≡ act_in c name slot old
+  same_act = λ i. act_of c name slot (noted.slots i) (noted.objects i).objects
+
+  pub same_new : AreNewNoted c name slot old → AreNewNoted c name slot new
+  same_new e = ap (new_in (network c)) same_act ∙ e ∙ sym noted.slots
+
 module _ (old : Decoder) (ready : IsReady old) (name : PrintedName) (slot : ℕ) where
   abbrev p : Compiled
   p = old.c.now
@@ -140,14 +153,16 @@ module _ (old : Decoder) (ready : IsReady old) (name : PrintedName) (slot : ℕ)
           → IsAsRoomy (frame old.scratch.env) (frame scratch.env) → TakesAct name slot old after None
       takes_by grown next_state same step read = takes_own step old after None taken
         where
-          taken : (steps : List GroundAction) → AreBehind p old.slots steps old.front old.state → HasTaken p old.slots (steps ++ step ∷ []) after
+          taken : (steps : List GroundAction) → AreBehind p old.slots steps old.front old.state
+              → HasTaken p old.slots (steps ++ step ∷ []) after
           taken steps behind =
               let can = o old.slots steps step ready.few behind read in
               let keeps = grown.front old.slots behind.acts (grows steps step behind read) in
               let reached : IsSameState p (true_of p (has_ground state)) (next p (true_of p (has_ground old.state)) (label_of (network p) a)) =
               subst (λ l. IsSameState p (true_of p (has_ground state)) (next p (true_of p (has_ground old.state)) l))
               (label_same p name slot old.scratch.new_slots.items (frame old.scratch.env).objects) next_state in
-              let longer = one_more_taken p old.slots steps (kept p old.front) (kept p front) (has_ground old.state) (has_ground state) step a behind read can.allowed keeps reached in
+              let longer = one_more_taken p old.slots steps (kept p old.front) (kept p front) (has_ground old.state) (has_ground state)
+              step a behind read can.allowed keeps reached in
               record {
                 problem = refl;
                 slots = refl;
@@ -165,3 +180,19 @@ module _ (old : Decoder) (ready : IsReady old) (name : PrintedName) (slot : ℕ)
                 };
                 behind = longer;
               }
+
+-- at first nothing is taken
+module _ (c : Compiled) (soundly : IsSoundlyCompiled c) (b : ℕ) (some : 1 ≤ b) (front : Front) (state : State) (first : IsFirstOf c front)
+    (has : Has state (Contains c.hddl.init)) where
+  pub none_behind : AreBehind c b [] front state
+  none_behind = taken_at_first c (lawful c soundly) b (kept c front) (has_ground state) some first has
+
+  pub none_labelled : AreLabelled c front
+  none_labelled = go front.growths first.growths
+    where
+      go : (gs : List Growth) → map (growth_in c) gs ≡ [] → growths_of gs ≡ map (labelled_growth c) (map (growth_in c) gs)
+      go [] e = refl
+      go (g ∷ gs) e = absurd cc
+
+  pub none_long : length front.growths ≤ most_steps
+  none_long = let e = sym (length-map front.growths (growth_in c)) ∙ ap length first.growths in omega arith

@@ -5,7 +5,6 @@ use Rattle.htn_base.specs.Limits.{most_slots, most_steps}
 use Rattle.plan_texts.specs.SoundlyCompiled.{IsSoundlyCompiled}
 use Rattle.plan_model.specs.declared.steps.GroundAction.{GroundAction}
 use Rattle.plan_model.specs.declared.values.Compiled.{Compiled}
-use Rattle.plan_model.specs.plan_meaning.Network.{network}
 use Rattle.problem_index.specs.Printed.{IsPrintedIndex}
 use Rattle.ground_state.specs.Frames.{frame}
 use Rattle.ground_state.specs.States.{has_ground}

@@ -133,7 +133,7 @@ impl<'c> Decoder<'c> {
             .printed
             .index()
             .world(&self.c.hddl.types, &self.c.hddl.objects);
-        let obstacle = obstacle(
+        if let Some(why) = obstacle(
             alloc,
             self.c,
             &world,
@@ -142,9 +142,8 @@ impl<'c> Decoder<'c> {
             name,
             slot,
             &mut self.scratch,
-        )?;
-        if obstacle.is_some() {
-            return Ok(obstacle);
+        )? {
+            return Ok(Some(why));
         }
         grow_by(
             alloc,
@@ -177,7 +176,7 @@ impl<'c> Decoder<'c> {
             drop(self);
             return Err(DecodeError::NotAPlan { step, why });
         }
-        decoded(alloc, self.into_front())
+        Ok(decoded(alloc, self.into_front())?)
     }
 
     /// What is left at the end of the steps taken, if anything.
@@ -240,7 +239,7 @@ fn holds_some(front: &Front, slots: u32) -> bool
 }
 
 /// The tree of a front's growths, with their slots.
-fn decoded(alloc: Global, front: Front) -> Result<Decoded, DecodeError>
+fn decoded(alloc: Global, front: Front) -> Result<Decoded, Memory>
     requires few { length front.growths ≤ most_steps }
     ensures decoded { IfOk result (spec.HasTree front) }
 {
@@ -249,12 +248,12 @@ fn decoded(alloc: Global, front: Front) -> Result<Decoded, DecodeError>
             Ok(run) => Ok(Decoded { run, slots }),
             Err(_) => {
                 drop(slots);
-                Err(DecodeError::Memory)
+                Err(Memory)
             }
         },
-        Err(_) => {
+        Err(memory) => {
             drop(front);
-            Err(DecodeError::Memory)
+            Err(memory)
         }
     }
 }
