@@ -5,10 +5,6 @@ use Rattle.std.specs.Prelude.{ℕ, ◌≡◌, ◌≤◌, ◌<◌, List, length}
 use Rattle.text_forms.specs.sheets.Sheets.{capped}
 use Rattle.plan_model.specs.declared.steps.GroundAction.{GroundAction}
 use Rattle.plan_model.specs.declared.values.Compiled.{Compiled}
-use Rattle.plan_model.specs.task_networks.Tree.{Tree, Address}
-use Rattle.plan_model.specs.plan_meaning.Network.{network}
-use Rattle.plan_model.specs.plan_meaning.Solution.{IsSolution}
-use Rattle.plan_model.specs.plan_meaning.SpelledPlan.{IsSpelling}
 use Rattle.decoding.specs.PrintedSteps.{FailsAt}
 use Rattle.tree_core.specs.declared.growth.Scheduled.{Scheduled}
 use Rattle.text_forms.specs.declared.sheets.sheet.Ended.{Ended}
@@ -16,28 +12,15 @@ use Rattle.text_forms.specs.declared.sheets.sheet.Ended.TheVariants as sheet
 use Rattle.hplan_text.specs.ShownLaws.{IsShown}
 use Rattle.hplan_text.specs.declared.values.HPlan.{HPlan}
 use Rattle.hplan_text.specs.HPlanText.{hplan_text}
-use Rattle.hplan_text.specs.ShownPlan.{ShowsHPlan}
-use Rattle.tree_texts.specs.declared.tree_text.TreeText.{TreeText}
-use Rattle.tree_texts.specs.declared.tree_text.TreeText.TheVariants.{Whole, TooLong, Fails}
+use Rattle.hplan_text.specs.ShownSolutions.{HaveText}
+use Rattle.tree_texts.specs.declared.text.TreeText.{TreeText}
+use Rattle.tree_texts.specs.declared.text.TreeText.TheVariants.{Whole, TooLong, Fails}
 
 module _ (c : Compiled) (b : ℕ) (steps : List GroundAction) where
-  -- the steps spell, with b slots, a schedule of a solution tree, and this is the hierarchical plan that they show
-  pub record SpellShown (shown : HPlan) : Type 0 where
-    pub tree : Tree (network c)
-    pub order : List Address
-    pub slot : Address → ℕ
-    pub spelled : IsSpelling c b steps tree order slot
-    pub solution : IsSolution c tree order
-    pub shows : ShowsHPlan c tree order shown
-
-  -- its text
-  abbrev pub HaveText : List ℕ → Type 0
-  HaveText text = (shown : HPlan) × SpellShown shown × (text ≡ hplan_text shown)
-
   -- the text, if it is at most so long; its length; or the step at which the steps fail, and its first cause
   abbrev pub IsTreeText : ℕ → TreeText → Type 0
-  IsTreeText most (Whole text) = HaveText text × (length text ≤ most)
-  IsTreeText most (TooLong n) = (text : List ℕ) × HaveText text × (n ≡ capped (length text)) × (most < n)
+  IsTreeText most (Whole text) = HaveText c b steps text × (length text ≤ most)
+  IsTreeText most (TooLong n) = (text : List ℕ) × HaveText c b steps text × (n ≡ capped (length text)) × (most < n)
   IsTreeText most (Fails step why) = FailsAt c b steps step why
 
 -- of the plan that a run shows

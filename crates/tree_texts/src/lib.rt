@@ -5,7 +5,7 @@
 //! no longer than the limit, else its length; or the step at which they fail, and its first cause.
 #![tactic(auto)]
 
-mod tree_text;
+mod text;
 
+pub use text::{TreeText, tree_text};
 pub use tree_decoder::Why;
-pub use tree_text::{TreeText, tree_text};

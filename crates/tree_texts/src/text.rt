@@ -47,12 +47,7 @@ pub fn tree_text(
 }
 
 /// What the steps are decoded to.
-fn decoded(
-    alloc: Global,
-    c: &Compiled,
-    slots: u32,
-    plan: &Plan<'_>,
-) -> Result<Decoded, DecodeError>
+fn decoded(alloc: Global, c: &Compiled, slots: u32, plan: &Plan<'_>) -> Result<Decoded, DecodeError>
     requires soundly { IsSoundlyCompiled c.now }
     requires some { 1 ≤ slots }
     requires few_slots { slots ≤ most_slots }
@@ -74,12 +69,7 @@ fn decoded(
 }
 
 /// The text of the plan that a run shows.
-fn text_of(
-    alloc: Global,
-    c: &Compiled,
-    run: &Scheduled,
-    most: u64,
-) -> Result<TreeText, Memory>
+fn text_of(alloc: Global, c: &Compiled, run: &Scheduled, most: u64) -> Result<TreeText, Memory>
     ensures text { IfOk result (spec.IsTextOf c.now run.now most) }
 {
     let shown = show(alloc, c, run)?;
@@ -97,5 +87,8 @@ fn printed(shown: &HPlan, most: u64, into: &mut Text) -> Result<Ended, Memory>
 {
     let mut sheet = Sheet::new(into, most);
     print(shown, &mut sheet);
-    sheet.answer()
+    let ended = sheet.answer();
+    // A text has fewer than 2^64 bytes.
+    let _ = into.len();
+    ended
 }

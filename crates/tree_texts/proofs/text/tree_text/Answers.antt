@@ -1,0 +1,5 @@
+use Rattle.tree_texts.proofs.Texts.{is-tree-text}
+use Rattle.tree_texts.proofs.text.tree_text.Goals as goal
+
+pub returns-in-Ok : goal.returns-in-Ok
+returns-in-Ok c = record { text = is-tree-text c.args.c.now c.args.slots c.args.plan.now c.in-Ok.decoded c.in-Ok.ensures.decoded c.args.most c.text_of.result c.text_of.ensures.text }
