@@ -3,3 +3,8 @@ pub mod Sound
 pub mod Steps
 pub mod Grown
 pub mod Ends
+pub mod Allowed
+pub mod Guarded
+pub mod Obstacles
+pub mod NewSlots
+pub mod Works
