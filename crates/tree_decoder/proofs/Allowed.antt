@@ -59,7 +59,7 @@ module _ (c : Compiled) (f : Frame) (room : HasRoomIn c f) where
   action_room name a s named e at = go (subst (λ n. IsNamedWith c n f.objects) e named)
     where
       go : IsNamedWith c (Action a) f.objects → Fits f s.pre
-      go (slot, new, b, step, read) =
+      go (slot, new, (b, step, read)) =
           let (other, is, own) = read.has in
           let same = ap (λ (z : ActionSchema). z.params) (one_at c.hddl.actions a s other at is) in
           room_for read.params s.params s.pre (same ∙ own) read.typed (room.actions s (contains_from c.hddl.actions a s at)).pre
@@ -69,14 +69,14 @@ module _ (c : Compiled) (f : Frame) (room : HasRoomIn c f) where
   check_room name m plan named e at = go (subst (λ n. IsNamedWith c n f.objects) e named)
     where
       go : IsNamedWith c (Check m) f.objects → Fits f plan.schema.pre
-      go (slot, new, b, step, read) = let (other, is, checked, own) = read.has in plan_room m plan other read.params at is own read.typed
+      go (slot, new, (b, step, read)) = let (other, is, checked, own) = read.has in plan_room m plan other read.params at is own read.typed
 
   pub method_room : (name : PrintedName) (m : ℕ) (plan : MethodPlan) → IsNamedWith c name f.objects → name ≡ Method m
       → slice_get c.methods m ≡ Some plan → Fits f plan.schema.pre
   method_room name m plan named e at = go (subst (λ n. IsNamedWith c n f.objects) e named)
     where
       go : IsNamedWith c (Method m) f.objects → Fits f plan.schema.pre
-      go (slot, new, b, step, read) = let (other, is, own) = read.has in plan_room m plan other read.params at is own read.typed
+      go (slot, new, (b, step, read)) = let (other, is, own) = read.has in plan_room m plan other read.params at is own read.typed
 
 module _ (c : Compiled) (world : World) (of : IsWorldOf c world) (state : State) (name : PrintedName) (objects : List ℕ) where
   -- the answer is whether the formula is true in the world

@@ -47,7 +47,7 @@ module _ (c : Compiled) (is : IsSoundlyCompiled c) (world : World) (of : IsWorld
   typed = go read
     where
       go : IsNamedWith c (Method m) objects → AreTyped (InTypeOf c) plan.schema.params objects
-      go (slot, new, b, step, r) =
+      go (slot, new, (b, step, r)) =
           let (other, at_other, own) = r.has in
           let same = ap (λ (z : MethodPlan). z.schema.params) (one_at c.methods m plan other at at_other) in
           subst (λ (ps : List Param). AreTyped (InTypeOf c) ps objects) (sym (same ∙ own)) r.typed
@@ -56,7 +56,7 @@ module _ (c : Compiled) (is : IsSoundlyCompiled c) (world : World) (of : IsWorld
   ground = go read
     where
       go : IsNamedWith c (Method m) objects → IsGroundMethod c g ↔ IsMet c g plan
-      go (slot, new, b, step, r) = read_is_ground c b step slot new g plan r at
+      go (slot, new, (b, step, r)) = read_is_ground c b step slot new g plan r at
 
   abbrev Kept : Guard → Type 0
   Kept k = InType world.types.now world.objects.now (value_of objects k.term) k.ty

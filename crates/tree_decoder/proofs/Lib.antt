@@ -7,4 +7,3 @@ pub mod Allowed
 pub mod Guarded
 pub mod Obstacles
 pub mod NewSlots
-pub mod Works

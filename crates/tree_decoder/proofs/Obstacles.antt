@@ -108,7 +108,7 @@ module _ (c : Compiled) (soundly : IsSoundlyCompiled c) (front : Front) (state :
         pub one_held : IsOneHeld front new → Obstacle (Some SlotTaken)
         one_held h b steps step few behind read = (tells b steps step few behind).taken a (held_leaf l) read held work unblocked (subst Taken (sym is_new) (taken h))
           where
-            abbrev Taken : List ℕ → Type 0
+            Taken : List ℕ → Type 0
             Taken = IsOneTaken c b steps (kept c front) (true_of c (has_ground state)) step
 
             some_leaf : (x : ℕ) (o : Option Leaf) → leaf_at front.leaves x ≡ o → IsSome o → (leaf : Held.Leaf (network c)) × ((kept c front).held x ≡ Some leaf)
