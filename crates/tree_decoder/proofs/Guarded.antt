@@ -1,6 +1,7 @@
 -- What a method asks is met where its constraints are true and its guards are kept.
-use Rattle.std.proofs.Common.{ℕ, ◌≡◌, ◌↔◌, Bool, true, false, IsTrue, List, length, get_or, All, Some, slice_get, Contains, refl, ap, sym, subst, ◌∙◌, true≢false}
-use Rattle.std.proofs.lemmas.List.Elements.{All-contains, Contains-get_or}
+use Rattle.std.proofs.Common.{ℕ, ◌≡◌, ◌+◌, ◌<◌, ◌≤◌, ◌↔◌, Bool, true, false, IsTrue, List, [], ◌∷◌, ◌++◌, length, take, get_or, All, Some, slice_get, Contains, refl, ap, sym, subst, ◌∙◌, true≢false}
+use Rattle.std.proofs.lemmas.List.{take_all, get_or_default}
+use Rattle.std.proofs.lemmas.List.Elements.{All-contains, All-push, Contains-get_or}
 use Rattle.plan_model.specs.declared.terms.Param.{Param}
 use Rattle.plan_model.specs.declared.networks.Child.{Child}
 use Rattle.plan_model.specs.declared.networks.Guard.{Guard}
@@ -15,6 +16,7 @@ use Rattle.plan_texts.specs.SoundlyCompiled.{IsSoundlyCompiled}
 use Rattle.problem_index.specs.declared.printed_index.PrintedName.{PrintedName}
 use Rattle.problem_index.specs.declared.printed_index.PrintedName.TheVariants.{Action, Check, Method}
 use Rattle.problem_index.specs.declared.world.World.{World}
+use Rattle.ground_state.proofs.Lists.{take_next}
 use Rattle.slot_encoding.proofs.places.Guards.{guards_declare}
 use Rattle.decoding.proofs.SoundSteps.{read_is_ground}
 use Rattle.tree_decoder.specs.Acts.{IsNamedWith, IsMetWith, IsWorldOf, AreMet, AreKept}
@@ -86,3 +88,29 @@ module _ (c : Compiled) (is : IsSoundlyCompiled c) (world : World) (of : IsWorld
 
   pub unmet : (AreMet objects plan.schema.constraints → ⊥) → IsTrue false ↔ IsMetWith c name objects
   unmet not = (λ t. absurd (true≢false (sym t)), λ x. absurd (not (named_met.0 x).0))
+
+-- terms that are looked at one after another: those so far are kept
+module _ (world : World) (objects : List ℕ) (guards : List Guard) where
+  abbrev IsOfType : ℕ → Guard → Type 0
+  IsOfType object k = InType world.types.now world.objects.now object k.ty
+
+  abbrev IsKept : Guard → Type 0
+  IsKept k = IsOfType (value_of objects k.term) k
+
+  pub one_not_kept : (i : ℕ) (d : Guard) → i < length guards → (object : ℕ) → object ≡ value_of objects (get_or guards i d).term
+      → (t : Bool) → IsTrue t ↔ IsOfType object (get_or guards i d) → t ≡ false → IsTrue false ↔ AreKept world objects guards
+  one_not_kept i d l object is t tells e = (λ f. absurd (true≢false (sym f)), λ all. absurd (true≢false (sym (kept all) ∙ e)))
+    where
+      kept : AreKept world objects guards → IsTrue t
+      kept all = tells.1 (subst (λ o. IsOfType o (get_or guards i d)) (sym is) (all i d l))
+
+  pub one_more_kept : (i : ℕ) (d : Guard) → i < length guards → (object : ℕ) → object ≡ value_of objects (get_or guards i d).term
+      → (t : Bool) → IsTrue t ↔ IsOfType object (get_or guards i d) → t ≡ true → AreKept world objects (take i guards)
+      → AreKept world objects (take (i + 1) guards)
+  one_more_kept i d l object is t tells e before =
+      let k = get_or guards i d in
+      subst (All IsKept) (sym (take_next guards i k l (get_or_default guards i d k l)))
+      (All-push IsKept (take i guards) k before (subst (λ o. IsOfType o k) is (tells.0 e)))
+
+  pub all_kept : (i : ℕ) → length guards ≤ i → AreKept world objects (take i guards) → IsTrue true ↔ AreKept world objects guards
+  all_kept i l before = (λ t. subst (All IsKept) (take_all i guards l) before, λ h. refl)

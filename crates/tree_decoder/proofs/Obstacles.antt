@@ -1,5 +1,5 @@
 -- What the tests of an act that is read say, in their order: why it can't be taken, or that it can.
-use Rattle.std.proofs.Common.{ℕ, ◌≡◌, ◌≤◌, ◌↔◌, ◌⊎◌, inl, inr, IsTrue, List, [], ◌∷◌, Option, Some, None, is_some, Contains, refl, ap, sym, subst, ◌∙◌}
+use Rattle.std.proofs.Common.{ℕ, ◌≡◌, ◌≤◌, ◌↔◌, ◌⊎◌, inl, inr, Bool, true, false, IsTrue, List, [], ◌∷◌, Option, Some, None, is_some, Contains, refl, ap, sym, subst, ◌∙◌, true≢false}
 use Rattle.std.specs.Option.{IsSome}
 use Rattle.htn_base.specs.Limits.{most_slots}
 use Rattle.htn_base.specs.Different.{AreDifferent}
@@ -11,6 +11,7 @@ use Rattle.plan_model.specs.plan_meaning.Solution.{top_work, Allows}
 use Rattle.plan_texts.specs.SoundlyCompiled.{IsSoundlyCompiled}
 use Rattle.problem_index.specs.declared.printed_index.PrintedName.{PrintedName}
 use Rattle.problem_index.specs.declared.printed_index.PrintedName.TheVariants.{Action, Check, Method}
+use Rattle.ground_state.specs.Frames.{Frame, frame}
 use Rattle.ground_state.specs.States.{has_ground}
 use Rattle.ground_state.specs.declared.state.State.{State}
 use Rattle.decoding.specs.declared.causes.Why.{Why}
@@ -26,10 +27,13 @@ use Rattle.kept_front.specs.declared.leaves.Leaf.{Leaf}
 use Rattle.kept_front.specs.declared.front.Front.{Front}
 use Rattle.kept_front.specs.Fronts.{kept, growths_in, leaf_of, work_at}
 use Rattle.kept_front.specs.Leaves.{leaf_at, blocked_in}
+use Rattle.kept_front.specs.declared.works.WorkKind.{WorkKind}
+use Rattle.kept_front.specs.Works.{work_of}
 use Rattle.kept_front.proofs.Told.{held_is, holds_none}
 use Rattle.step_reader.specs.Readings.{act_of}
 use Rattle.tree_decoder.specs.Decoding.{AreBehind, FailsHere}
-use Rattle.tree_decoder.specs.Acts.{work_with, label_with, IsMetWith, AllowsWith, IsOneHeld, CanTake, IsObstacle}
+use Rattle.tree_decoder.specs.declared.testing.Scratch.{Scratch}
+use Rattle.tree_decoder.specs.Acts.{StaysNoted, IsWorkNoted, work_with, label_with, IsMetWith, AllowsWith, IsOneHeld, CanTake, IsObstacle}
 use Rattle.tree_decoder.proofs.Sound.{lawful, sound_steps}
 use Rattle.tree_decoder.proofs.Steps.{label_same}
 use Rattle.tree_decoder.proofs.Grown.{slot_same}
@@ -50,6 +54,29 @@ to_met c (Method m) slot new objects = (λ h. h, λ h. h)
 differ : {A : Type 0} (xs : List A) → ((AreDifferent xs → ⊥) → ⊥) → AreDifferent xs
 differ [] not = tt
 differ (x ∷ xs) not = (λ k. not (λ d. d.0 k), differ xs (λ n. not (λ d. n d.1)))
+
+pub not_so : {P : Type 0} (t : Bool) → IsTrue t ↔ P → t ≡ false → P → ⊥
+not_so t tells e p = true≢false (sym (tells.1 p) ∙ e)
+
+-- what is tested stays as long as what is noted of the step does
+module _ (c : Compiled) (name : PrintedName) (old new : Scratch) (noted : StaysNoted old new) where
+  same_objects : (frame new.env).objects ≡ (frame old.env).objects
+  same_objects = ap (λ (f : Frame). f.objects) noted.objects
+
+  pub same_work : (kind : WorkKind) (task : List ℕ) → task ≡ new.task.items → IsWorkNoted c name new kind
+      → work_of kind task ≡ work_with c name (frame old.env).objects
+  same_work kind task e noted_work = ap (work_of kind) e ∙ noted_work ∙ ap (work_with c name) same_objects
+
+  pub same_held : (front : Front) (t : Bool) (slots : List ℕ) → slots ≡ new.new_slots.items → IsTrue t ↔ IsOneHeld front slots
+      → IsTrue t ↔ IsOneHeld front old.new_slots.items
+  same_held front t slots e tells = subst (λ xs. IsTrue t ↔ IsOneHeld front xs) (e ∙ noted.slots) tells
+
+  pub same_met : (t : Bool) → IsTrue t ↔ IsMetWith c name (frame new.env).objects → IsTrue t ↔ IsMetWith c name (frame old.env).objects
+  same_met t tells = subst (λ os. IsTrue t ↔ IsMetWith c name os) same_objects tells
+
+  pub same_allowed : (state : State) (t : Bool) → IsTrue t ↔ AllowsWith c state name (frame new.env).objects
+      → IsTrue t ↔ AllowsWith c state name (frame old.env).objects
+  same_allowed state t tells = subst (λ os. IsTrue t ↔ AllowsWith c state name os) same_objects tells
 
 module _ (c : Compiled) (soundly : IsSoundlyCompiled c) (front : Front) (state : State) (name : PrintedName) (slot : ℕ) (new objects : List ℕ) where
   abbrev a : Act (network c)
