@@ -1,5 +1,5 @@
 -- What a method asks is met where its constraints are true and its guards are kept.
-use Rattle.std.proofs.Common.{ℕ, ◌≡◌, ◌+◌, ◌<◌, ◌≤◌, ◌↔◌, Bool, true, false, IsTrue, List, [], ◌∷◌, ◌++◌, length, take, get_or, All, Some, slice_get, Contains, refl, ap, sym, subst, ◌∙◌, true≢false}
+use Rattle.std.proofs.Common.{ℕ, ◌≡◌, ◌+◌, ◌<◌, ◌≤◌, ◌↔◌, Bool, true, false, IsTrue, List, length, take, get_or, All, Some, slice_get, Contains, refl, ap, sym, subst, ◌∙◌, true≢false}
 use Rattle.std.proofs.lemmas.List.{take_all, get_or_default}
 use Rattle.std.proofs.lemmas.List.Elements.{All-contains, All-push, Contains-get_or}
 use Rattle.plan_model.specs.declared.terms.Param.{Param}

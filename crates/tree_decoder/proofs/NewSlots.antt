@@ -1,5 +1,5 @@
 -- New slots that are looked at one after another: those so far hold nothing and differ.
-use Rattle.std.proofs.Common.{ℕ, ◌≡◌, ◌≤◌, ◌<◌, ◌+◌, ◌↔◌, ◌⊎◌, inl, inr, Bool, true, false, not, cond, IsTrue, is_some, List, [], ◌∷◌, ◌++◌, length, get_or, take, Contains, Option, None, refl, ap, sym, subst, ◌∙◌, true≢false, arith}
+use Rattle.std.proofs.Common.{ℕ, ◌≡◌, ◌≤◌, ◌<◌, ◌+◌, ◌↔◌, ◌⊎◌, inl, inr, Bool, true, false, not, cond, IsTrue, is_some, List, [], ◌∷◌, ◌++◌, length, get_or, take, Contains, refl, ap, sym, subst, ◌∙◌, true≢false, arith}
 use Rattle.std.proofs.lemmas.List.{take_all}
 use Rattle.std.proofs.lemmas.List.Elements.{Contains-append_left, Contains-append_right}
 use Rattle.std.proofs.lemmas.Map.Views.{tells_apart}

@@ -1,11 +1,11 @@
 -- What the tests of an act that is read say, in their order: why it can't be taken, or that it can.
-use Rattle.std.proofs.Common.{ℕ, ◌≡◌, ◌≤◌, ◌↔◌, ◌⊎◌, inl, inr, Bool, true, false, IsTrue, List, [], ◌∷◌, Option, Some, None, is_some, Contains, refl, ap, sym, subst, ◌∙◌, true≢false}
+use Rattle.std.proofs.Common.{ℕ, ◌≡◌, ◌≤◌, ◌↔◌, inl, inr, Bool, false, IsTrue, List, [], ◌∷◌, Option, Some, None, is_some, Contains, refl, ap, sym, subst, ◌∙◌, true≢false}
 use Rattle.std.specs.Option.{IsSome}
 use Rattle.htn_base.specs.Limits.{most_slots}
 use Rattle.htn_base.specs.Different.{AreDifferent}
 use Rattle.plan_model.specs.declared.steps.GroundAction.{GroundAction}
 use Rattle.plan_model.specs.declared.values.Compiled.{Compiled}
-use Rattle.plan_model.specs.task_networks.Spelling.{Act, label_of}
+use Rattle.plan_model.specs.task_networks.Spelling.{Act}
 use Rattle.plan_model.specs.plan_meaning.Network.{network}
 use Rattle.plan_model.specs.plan_meaning.Solution.{top_work, Allows}
 use Rattle.plan_texts.specs.SoundlyCompiled.{IsSoundlyCompiled}
@@ -31,9 +31,9 @@ use Rattle.kept_front.specs.declared.works.WorkKind.{WorkKind}
 use Rattle.kept_front.specs.Works.{work_of}
 use Rattle.kept_front.proofs.Told.{held_is, holds_none}
 use Rattle.step_reader.specs.Readings.{act_of}
-use Rattle.tree_decoder.specs.Decoding.{AreBehind, FailsHere}
+use Rattle.tree_decoder.specs.Decoding.{AreBehind}
 use Rattle.tree_decoder.specs.declared.testing.Scratch.{Scratch}
-use Rattle.tree_decoder.specs.Acts.{StaysNoted, IsWorkNoted, work_with, label_with, IsMetWith, AllowsWith, IsOneHeld, CanTake, IsObstacle}
+use Rattle.tree_decoder.specs.Acts.{StaysNoted, IsWorkNoted, work_with, IsMetWith, AllowsWith, IsOneHeld, IsObstacle}
 use Rattle.tree_decoder.proofs.Sound.{lawful, sound_steps}
 use Rattle.tree_decoder.proofs.Steps.{label_same}
 use Rattle.tree_decoder.proofs.Grown.{slot_same}

@@ -1,6 +1,6 @@
 -- What the tests of an act say, where it is read from a step.
 -- Source: this project's.
-use Rattle.std.specs.Prelude.{ℕ, ◌≡◌, ◌≤◌, ◌↔◌, ◌⊎◌, IsTrue, IsSome, List, [], All, Contains, MatchOption, Option}
+use Rattle.std.specs.Prelude.{ℕ, ◌≡◌, ◌≤◌, ◌⊎◌, IsSome, List, [], All, Contains, MatchOption, Option}
 use Rattle.htn_base.specs.Different.{AreDifferent}
 use Rattle.htn_base.specs.Limits.{most_slots}
 use Rattle.plan_model.specs.declared.steps.GroundAction.{GroundAction}

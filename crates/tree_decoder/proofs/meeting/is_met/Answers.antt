@@ -1,4 +1,4 @@
-use Rattle.std.proofs.Common.{◌≡◌, ◌↔◌, ◌∙◌, IsTrue, ap, sym, subst}
+use Rattle.std.proofs.Common.{◌↔◌, ◌∙◌, IsTrue, ap, sym, subst}
 use Rattle.std.specs.Option.{option_copied}
 use Rattle.tree_decoder.specs.Acts.{AreMet, AreKept}
 use Rattle.tree_decoder.proofs.Guarded as laws

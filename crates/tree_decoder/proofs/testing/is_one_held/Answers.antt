@@ -1,4 +1,4 @@
-use Rattle.std.proofs.Common.{◌≡◌, ◌∙◌, get_or, is_some, ap, sym}
+use Rattle.std.proofs.Common.{◌∙◌, get_or, is_some, ap, sym}
 use Rattle.std.proofs.lemmas.List.{get_or_default}
 use Rattle.tree_decoder.proofs.NewSlots as laws
 use Rattle.tree_decoder.proofs.testing.is_one_held.Goals as goal

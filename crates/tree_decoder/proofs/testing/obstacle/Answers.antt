@@ -1,4 +1,4 @@
-use Rattle.std.proofs.Common.{◌≡◌, ◌∙◌, sym, arith}
+use Rattle.std.proofs.Common.{◌∙◌, sym, arith}
 use Rattle.ground_state.specs.Frames.{frame}
 use Rattle.tree_decoder.proofs.Obstacles as laws
 use Rattle.tree_decoder.proofs.testing.obstacle.Goals as goal
