@@ -22,7 +22,7 @@ use Rattle.tree_decoder.specs.Acts.{IsLabelWith}
 use Rattle.tree_decoder.specs.Taking.{CanGrow, CanGrowSome, IsGrownBy}
 use Rattle.tree_decoder.proofs.Steps.{label_same}
 
-slot_same : (c : Compiled) (name : PrintedName) (slot : ℕ) (new objects : List ℕ) → slot_in (network c) (act_of c name slot new objects) ≡ slot
+pub slot_same : (c : Compiled) (name : PrintedName) (slot : ℕ) (new objects : List ℕ) → slot_in (network c) (act_of c name slot new objects) ≡ slot
 slot_same c (Action a) slot new objects = refl
 slot_same c (Check m) slot new objects = refl
 slot_same c (Method m) slot new objects = refl

@@ -5,3 +5,7 @@ pub mod Grown
 pub mod Effects
 pub mod Lists
 pub mod Ends
+pub mod Allowed
+pub mod Guarded
+pub mod Obstacles
+pub mod NewSlots

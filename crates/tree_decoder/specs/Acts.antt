@@ -1,6 +1,6 @@
 -- What the tests of an act say, where it is read from a step.
 -- Source: this project's.
-use Rattle.std.specs.Prelude.{ℕ, ◌≡◌, ◌≤◌, ◌↔◌, ◌⊎◌, IsTrue, IsSome, List, [], Contains, MatchOption, Option}
+use Rattle.std.specs.Prelude.{ℕ, ◌≡◌, ◌≤◌, ◌⊎◌, IsSome, List, [], All, Contains, MatchOption, Option}
 use Rattle.htn_base.specs.Different.{AreDifferent}
 use Rattle.htn_base.specs.Limits.{most_slots}
 use Rattle.plan_model.specs.declared.steps.GroundAction.{GroundAction}
@@ -90,12 +90,11 @@ pub record StaysNoted (old new : Scratch) : Type 0 where
 
 -- each of the constraints is true
 abbrev pub AreMet : List ℕ → List Constraint → Type 0
-AreMet objects constraints = (one : Constraint) → Contains constraints one → Meets objects one
+AreMet objects constraints = All (Meets objects) constraints
 
 -- each of the terms stands for an object of its type
 abbrev pub AreKept : World → List ℕ → List Guard → Type 0
-AreKept world objects guards = (guard : Guard) → Contains guards guard
-    → InType world.types.now world.objects.now (value_of objects guard.term) guard.ty
+AreKept world objects guards = All (λ (guard : Guard). InType world.types.now world.objects.now (value_of objects guard.term) guard.ty) guards
 
 -- a new slot holds an open leaf, or stands twice
 abbrev pub IsOneHeld : Front → List ℕ → Type 0

@@ -40,7 +40,10 @@ fn are_kept(guards: &[Guard], world: &World<'_>, env: &Env) -> bool
     requires world { IsWorld world.now }
     ensures { IsTrue result ↔ spec.AreKept world.now (frame env.now).objects guards.now }
 {
-    guards
-        .iter()
-        .all(|guard| world.has(env.value(guard.term), guard.ty))
+    for guard in guards {
+        if !world.has(env.value(guard.term), guard.ty) {
+            return false;
+        }
+    }
+    true
 }

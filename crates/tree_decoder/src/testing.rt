@@ -49,7 +49,6 @@ impl Scratch {
 
     /// What the act of this name processes; its objects are noted.
     fn work(&mut self, c: &Compiled, name: PrintedName) -> Result<WorkKind, Memory>
-        requires named { spec.IsNamedWith c.now name (frame self.old.env).objects }
         ensures work { IfOk result (spec.IsWorkNoted c.now name self.new) }
         ensures noted { OnOk result (spec.StaysNoted self.old self.new) }
     {
@@ -65,7 +64,7 @@ impl Scratch {
             }
             PrintedName::Method(method) => {
                 let Some(plan) = c.methods.get(method as usize) else {
-                    return Ok(WorkKind::Check(method));
+                    return Ok(WorkKind::Task(0));
                 };
                 for term in plan.schema.task_args.as_slice() {
                     let object = self.env.value(*term);
@@ -172,7 +171,13 @@ fn is_one_held(alloc: Global, front: &Front, new: &[u32]) -> Result<bool, Memory
 {
     let mut seen = BTreeSet::new(alloc);
     for slot in new {
-        if front.leaf(*slot).is_some() || !seen.insert(*slot)? {
+        if front.leaf(*slot).is_some() {
+            return Ok(true);
+        }
+        if new.len() == 1 {
+            return Ok(false);
+        }
+        if !seen.insert(*slot)? {
             return Ok(true);
         }
     }
