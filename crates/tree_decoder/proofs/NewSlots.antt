@@ -57,8 +57,7 @@ one_more_seen old new xs k seen u n = go (is_at (nat_cmp k) n) refl
       λ c. u n ∙ ap (λ t. cond t true (contains nat_cmp old n)) f,
     )
     go false f =
-        let same : contains nat_cmp new n ≡ contains nat_cmp old n = u n ∙ ap (λ t. cond t true (contains nat_cmp old n)) f in
-        (
+        let same : contains nat_cmp new n ≡ contains nat_cmp old n = u n ∙ ap (λ t. cond t true (contains nat_cmp old n)) f in (
           λ h. Contains-append_left xs (k ∷ []) n ((seen n).0 (sym same ∙ h)),
           λ c. elim (among xs k n c) [
             | inl d ↦ same ∙ (seen n).1 d

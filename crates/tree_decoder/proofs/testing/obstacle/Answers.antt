@@ -16,7 +16,7 @@ returns-then-not-holds-clause-obstacle c =
     let noted = c.in_ok-kind.ensures.noted in
     let leaf = sym c.leaf.ensures ∙ c.in-Some.is in
     let work = laws.same_work c.args.c.now c.args.name old new noted c.in_ok-kind.kind c.as_slice.result.now c.as_slice.ensures.value
-        c.in_ok-kind.ensures.work in
+    c.in_ok-kind.ensures.work in
     laws.other_held c.args.c.now c.requires.soundly c.args.front.now c.args.state.now c.args.name c.args.slot
     old.new_slots.items (frame old.env).objects c.in-Some.leaf leaf
     (λ w. laws.not_so c.holds.result c.holds.ensures c.if-not-holds.true (w ∙ sym work))
@@ -28,7 +28,7 @@ returns-then-leaf-gt0-clause-obstacle c =
     let noted = c.in_ok-kind.ensures.noted in
     let leaf = sym c.leaf.ensures ∙ c.in-Some.is in
     let work = laws.same_work c.args.c.now c.args.name old new noted c.in_ok-kind.kind c.as_slice.result.now c.as_slice.ensures.value
-        c.in_ok-kind.ensures.work in
+    c.in_ok-kind.ensures.work in
     let holds = c.holds.ensures.0 c.if-not-holds.false ∙ work in
     laws.waits c.args.c.now c.requires.soundly c.args.front.now c.args.state.now c.args.name c.args.slot
     old.new_slots.items (frame old.env).objects c.in-Some.leaf leaf holds c.if-leaf-gt0.true
@@ -40,11 +40,11 @@ returns-then-branch-clause-obstacle c =
     let noted = c.in_ok-kind.ensures.noted in
     let leaf = sym c.leaf.ensures ∙ c.in-Some.is in
     let work = laws.same_work c.args.c.now c.args.name old new noted c.in_ok-kind.kind c.as_slice.result.now c.as_slice.ensures.value
-        c.in_ok-kind.ensures.work in
+    c.in_ok-kind.ensures.work in
     let holds = c.holds.ensures.0 c.if-not-holds.false ∙ work in
     let free = c.if-leaf-gt0.false in
     let held = laws.same_held c.args.c.now c.args.name old new noted c.args.front.now c.in_ok-is_one_held.field-0 c.as_slice-2.result.now
-        c.as_slice-2.ensures.value c.in_ok-is_one_held.ensures.held in
+    c.as_slice-2.ensures.value c.in_ok-is_one_held.ensures.held in
     laws.one_held c.args.c.now c.requires.soundly c.args.front.now c.args.state.now c.args.name c.args.slot
     old.new_slots.items (frame old.env).objects c.in-Some.leaf leaf holds
     (omega (arith, free)) c.requires.new (held.0 c.if-branch.true)
@@ -56,11 +56,11 @@ returns-then-not-is_met-clause-obstacle c =
     let noted = c.in_ok-kind.ensures.noted in
     let leaf = sym c.leaf.ensures ∙ c.in-Some.is in
     let work = laws.same_work c.args.c.now c.args.name old new noted c.in_ok-kind.kind c.as_slice.result.now c.as_slice.ensures.value
-        c.in_ok-kind.ensures.work in
+    c.in_ok-kind.ensures.work in
     let holds = c.holds.ensures.0 c.if-not-holds.false ∙ work in
     let free = c.if-leaf-gt0.false in
     let held = laws.same_held c.args.c.now c.args.name old new noted c.args.front.now c.in_ok-is_one_held.field-0 c.as_slice-2.result.now
-        c.as_slice-2.ensures.value c.in_ok-is_one_held.ensures.held in
+    c.as_slice-2.ensures.value c.in_ok-is_one_held.ensures.held in
     let none = laws.not_so c.in_ok-is_one_held.field-0 held c.if-branch.false in
     let met = laws.same_met c.args.c.now c.args.name old new noted c.is_met.result c.is_met.ensures.met in
     laws.unmet c.args.c.now c.requires.soundly c.args.front.now c.args.state.now c.args.name c.args.slot
@@ -74,11 +74,11 @@ returns-then-not-is_allowed-clause-obstacle c =
     let noted = c.in_ok-kind.ensures.noted in
     let leaf = sym c.leaf.ensures ∙ c.in-Some.is in
     let work = laws.same_work c.args.c.now c.args.name old new noted c.in_ok-kind.kind c.as_slice.result.now c.as_slice.ensures.value
-        c.in_ok-kind.ensures.work in
+    c.in_ok-kind.ensures.work in
     let holds = c.holds.ensures.0 c.if-not-holds.false ∙ work in
     let free = c.if-leaf-gt0.false in
     let held = laws.same_held c.args.c.now c.args.name old new noted c.args.front.now c.in_ok-is_one_held.field-0 c.as_slice-2.result.now
-        c.as_slice-2.ensures.value c.in_ok-is_one_held.ensures.held in
+    c.as_slice-2.ensures.value c.in_ok-is_one_held.ensures.held in
     let none = laws.not_so c.in_ok-is_one_held.field-0 held c.if-branch.false in
     let met = laws.same_met c.args.c.now c.args.name old new noted c.is_met.result c.is_met.ensures.met in
     let allowed = laws.same_allowed c.args.c.now c.args.name old new noted c.args.state.now c.is_allowed.result c.is_allowed.ensures.allowed in
@@ -94,11 +94,11 @@ returns-clause-obstacle c =
     let noted = c.in_ok-kind.ensures.noted in
     let leaf = sym c.leaf.ensures ∙ c.in-Some.is in
     let work = laws.same_work c.args.c.now c.args.name old new noted c.in_ok-kind.kind c.as_slice.result.now c.as_slice.ensures.value
-        c.in_ok-kind.ensures.work in
+    c.in_ok-kind.ensures.work in
     let holds = c.holds.ensures.0 c.if-not-holds.false ∙ work in
     let free = c.if-leaf-gt0.false in
     let held = laws.same_held c.args.c.now c.args.name old new noted c.args.front.now c.in_ok-is_one_held.field-0 c.as_slice-2.result.now
-        c.as_slice-2.ensures.value c.in_ok-is_one_held.ensures.held in
+    c.as_slice-2.ensures.value c.in_ok-is_one_held.ensures.held in
     let none = laws.not_so c.in_ok-is_one_held.field-0 held c.if-branch.false in
     let met = laws.same_met c.args.c.now c.args.name old new noted c.is_met.result c.is_met.ensures.met in
     let allowed = laws.same_allowed c.args.c.now c.args.name old new noted c.args.state.now c.is_allowed.result c.is_allowed.ensures.allowed in
