@@ -4,8 +4,8 @@ use Rattle.std.specs.Str.{bytes_eq}
 use Rattle.std.proofs.Math.Seq.{take-append_seam, drop-append_seam}
 use Rattle.command_words.specs.Names.{Word, names_in}
 use Rattle.command_words.specs.Bounds.{IsNumeral}
-use Rattle.command_words.specs.Forms.{Row, AreOptions, AreOf, translation_form, bound_form, validation_form}
-use Rattle.command_words.specs.Words.{TranslationRequest, BoundRequest, ValidationRequest, Request, to_translate, to_bound, to_validate, AskBy, SayTranslation, SayBound, SayValidation, AsksTranslation, AsksBound, AsksValidation, Asks, AreOfAForm}
+use Rattle.command_words.specs.Forms.{Row, AreOptions, AreOf, translation_form, bound_form, decode_form, validation_form}
+use Rattle.command_words.specs.Words.{TranslationRequest, BoundRequest, DecodeRequest, ValidationRequest, Request, to_translate, to_bound, to_decode, to_validate, AskBy, SayTranslation, SayBound, SayDecode, SayValidation, AsksTranslation, AsksBound, AsksDecode, AsksValidation, Asks, AreOfAForm}
 
 -- one list behind a word, cut at one place
 module _ (form : Row) (words names options : List Word) (of : AreOf form words names options) where
@@ -62,6 +62,13 @@ one_bound_said n o r s a b =
     let checks = one_some r.checks s.checks a.checks b.checks in
     λ i. record { domain = get_or (e i) 0 []; problem = get_or (e i) 1 []; checks = checks i }
 
+one_decode_said : (n o : List Word) (r s : DecodeRequest) → SayDecode n o r → SayDecode n o s → r ≡ s
+one_decode_said n o r s a b =
+    let e : r.domain ∷ r.problem ∷ r.plan ∷ [] ≡ s.domain ∷ s.problem ∷ s.plan ∷ [] = sym a.files ∙ b.files in
+    let numeral = a.numeral ∙ sym b.numeral in
+    let checks = one_some r.checks s.checks a.checks b.checks in
+    λ i. record { domain = get_or (e i) 0 []; problem = get_or (e i) 1 []; plan = get_or (e i) 2 []; numeral = numeral i; checks = checks i }
+
 one_validation_said : (n o : List Word) (r s : ValidationRequest) → SayValidation n o r → SayValidation n o s → r ≡ s
 one_validation_said n o r s a b =
     let e : r.domain ∷ r.problem ∷ r.plan ∷ [] ≡ s.domain ∷ s.problem ∷ s.plan ∷ [] = sym a.files ∙ b.files in
@@ -69,12 +76,13 @@ one_validation_said n o r s a b =
 
 -- the place of what is asked for among the commands
 abbrev commands : List Word
-commands = translation_form.command ∷ bound_form.command ∷ validation_form.command ∷ []
+commands = translation_form.command ∷ bound_form.command ∷ decode_form.command ∷ validation_form.command ∷ []
 
 abbrev place : Request → ℕ
 place (to_translate r) = 0
 place (to_bound r) = 1
-place (to_validate r) = 2
+place (to_decode r) = 2
+place (to_validate r) = 3
 
 abbrev first_place : List Word → Option ℕ
 first_place words = position (bytes_eq (get_or words 0 [])) commands
@@ -82,11 +90,13 @@ first_place words = position (bytes_eq (get_or words 0 [])) commands
 placed : (words : List Word) (r : Request) → Asks words r → first_place words ≡ Some (place r)
 placed words (to_translate r) asks = ap first_place asks.2.spelled
 placed words (to_bound r) asks = ap first_place asks.2.spelled
+placed words (to_decode r) asks = ap first_place asks.2.spelled
 placed words (to_validate r) asks = ap first_place asks.2.spelled
 
 pub one_request : (words : List Word) (r s : Request) → Asks words r → Asks words s → r ≡ s
 one_request words (to_translate r) (to_translate s) a b = ap to_translate (one_by _ SayTranslation one_translation_said words r s a b)
 one_request words (to_bound r) (to_bound s) a b = ap to_bound (one_by _ SayBound one_bound_said words r s a b)
+one_request words (to_decode r) (to_decode s) a b = ap to_decode (one_by _ SayDecode one_decode_said words r s a b)
 one_request words (to_validate r) (to_validate s) a b = ap to_validate (one_by _ SayValidation one_validation_said words r s a b)
 one_request words r s a b = let e : place r ≡ place s = one_some (place r) (place s) (placed words r a) (placed words s b) in absurd (omega (arith, e))
 
@@ -94,12 +104,16 @@ one_request words r s a b = let e : place r ≡ place s = one_some (place r) (pl
 pub numeral_is : (words : List Word) (r : TranslationRequest) → AsksTranslation words r → IfSome r.numeral IsNumeral
 numeral_is words r asks = asks.3.slots
 
+pub decode_numeral_is : (words : List Word) (r : DecodeRequest) → AsksDecode words r → IfSome r.numeral IsNumeral
+decode_numeral_is words r asks = asks.3.slots
+
 -- words that ask for nothing
 pub no_form : (words : List Word) → ((r : TranslationRequest) → AsksTranslation words r → ⊥) → ((r : BoundRequest) → AsksBound words r → ⊥)
-    → ((r : ValidationRequest) → AsksValidation words r → ⊥) → AreOfAForm words → ⊥
-no_form words first second third (to_translate r, asks) = first r asks
-no_form words first second third (to_bound r, asks) = second r asks
-no_form words first second third (to_validate r, asks) = third r asks
+    → ((r : DecodeRequest) → AsksDecode words r → ⊥) → ((r : ValidationRequest) → AsksValidation words r → ⊥) → AreOfAForm words → ⊥
+no_form words first second third fourth (to_translate r, asks) = first r asks
+no_form words first second third fourth (to_bound r, asks) = second r asks
+no_form words first second third fourth (to_decode r, asks) = third r asks
+no_form words first second third fourth (to_validate r, asks) = fourth r asks
 
 pub none_too : {X : Type 0} {P Q : Type 0} (o : Option X) → (P → Q) → IfNone o P → IfNone o Q
 none_too None f p = f p

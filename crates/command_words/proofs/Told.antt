@@ -10,9 +10,9 @@ use Rattle.std.proofs.Math.Seq.{drop-append_seam}
 use Rattle.std.proofs.lemmas.Slice.Eq.{bytes_eq-Decides}
 use Rattle.command_words.specs.Names.{Word, Names, AreApart}
 use Rattle.command_words.specs.Bounds.{IsNumeral}
-use Rattle.command_words.specs.Forms.{Row, said, AreOptions, AreOf, translation_form, bound_form, validation_form}
+use Rattle.command_words.specs.Forms.{Row, said, AreOptions, AreOf, translation_form, bound_form, decode_form, validation_form}
 use Rattle.command_words.specs.Options.{AreSlots, slots_said, style_said, checks_said}
-use Rattle.command_words.specs.Words.{TranslationRequest, BoundRequest, ValidationRequest, to_translate, to_bound, to_validate, AskBy, SayTranslation, SayBound, SayValidation, AsksTranslation, AsksBound, AsksValidation, AreOfAForm}
+use Rattle.command_words.specs.Words.{TranslationRequest, BoundRequest, DecodeRequest, ValidationRequest, to_translate, to_bound, to_decode, to_validate, AskBy, SayTranslation, SayBound, SayDecode, SayValidation, AsksTranslation, AsksBound, AsksDecode, AsksValidation, AreOfAForm}
 use Rattle.command_words.proofs.Said.{among_told}
 use Rattle.command_words.proofs.Requests.{not_said, no_form}
 
@@ -160,6 +160,28 @@ module _ (options : List Word) where
   ]
   bound_told (d ∷ p ∷ x ∷ names) = inr (not_two (d ∷ p ∷ x ∷ names) (λ e. omega (arith, e)))
 
+  decode_of_three : (d p s : Word) → SaysTold SayDecode (d ∷ p ∷ s ∷ []) options
+  decode_of_three d p s = go (slots_told (slots_said options)) (value_told (checks_said options))
+    where
+      go : Or_not (AreSlots (slots_said options)) → ((v : _) × (checks_said options ≡ Some v)) ⊎ ((v : _) → checks_said options ≡ Some v → ⊥)
+          → SaysTold SayDecode (d ∷ p ∷ s ∷ []) options
+      go (inl m) (inl c) = inl (
+        record { domain = d; problem = p; plan = s; numeral = slots_said options; checks = c.0 },
+        record { files = refl; numeral = refl; slots = m; checks = c.1 },
+      )
+      go (inr m) c = inr (λ r a. m (subst AreSlots a.numeral a.slots))
+      go (inl m) (inr n) = inr (λ r a. n r.checks a.checks)
+
+  not_files : (names : List Word) → (length names ≡ 3 → ⊥) → (r : DecodeRequest) → SayDecode names options r → ⊥
+  not_files names l r a = l (ap length a.files)
+
+  decode_told : (names : List Word) → SaysTold SayDecode names options
+  decode_told [] = inr (not_files [] (λ e. omega (arith, e)))
+  decode_told (d ∷ []) = inr (not_files (d ∷ []) (λ e. omega (arith, e)))
+  decode_told (d ∷ p ∷ []) = inr (not_files (d ∷ p ∷ []) (λ e. omega (arith, e)))
+  decode_told (d ∷ p ∷ s ∷ []) = decode_of_three d p s
+  decode_told (d ∷ p ∷ s ∷ x ∷ names) = inr (not_files (d ∷ p ∷ s ∷ x ∷ names) (λ e. omega (arith, e)))
+
   not_three : (names : List Word) → (length names ≡ 3 → ⊥) → (r : ValidationRequest) → SayValidation names options r → ⊥
   not_three names l r a = l (ap length a.files)
 
@@ -175,12 +197,15 @@ FormTold words = AreOfAForm words ⊎ (AreOfAForm words → ⊥)
 
 pub form_told : (words : List Word) → FormTold words
 form_told words =
-    go (told_by translation_form SayTranslation (λ n o. translation_told o n) words) (told_by bound_form SayBound (λ n o. bound_told o n) words) (told_by validation_form SayValidation (λ n o. validation_told o n) words)
+    go (told_by translation_form SayTranslation (λ n o. translation_told o n) words) (told_by bound_form SayBound (λ n o. bound_told o n) words)
+    (told_by decode_form SayDecode (λ n o. decode_told o n) words) (told_by validation_form SayValidation (λ n o. validation_told o n) words)
   where
     go : ((r : TranslationRequest) × AsksTranslation words r) ⊎ ((r : TranslationRequest) → AsksTranslation words r → ⊥)
         → ((r : BoundRequest) × AsksBound words r) ⊎ ((r : BoundRequest) → AsksBound words r → ⊥)
+        → ((r : DecodeRequest) × AsksDecode words r) ⊎ ((r : DecodeRequest) → AsksDecode words r → ⊥)
         → ((r : ValidationRequest) × AsksValidation words r) ⊎ ((r : ValidationRequest) → AsksValidation words r → ⊥) → FormTold words
-    go (inl (r, a)) b c = inl (to_translate r, a)
-    go (inr n) (inl (r, a)) c = inl (to_bound r, a)
-    go (inr n) (inr m) (inl (r, a)) = inl (to_validate r, a)
-    go (inr n) (inr m) (inr k) = inr (no_form words n m k)
+    go (inl (r, a)) b c d = inl (to_translate r, a)
+    go (inr n) (inl (r, a)) c d = inl (to_bound r, a)
+    go (inr n) (inr m) (inl (r, a)) d = inl (to_decode r, a)
+    go (inr n) (inr m) (inr k) (inl (r, a)) = inl (to_validate r, a)
+    go (inr n) (inr m) (inr k) (inr l) = inr (no_form words n m k l)

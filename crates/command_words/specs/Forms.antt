@@ -23,6 +23,9 @@ translation_form = record { command = codes "translate"; names = 4; options = co
 abbrev pub bound_form : Row
 bound_form = record { command = codes "bound"; names = 2; options = codes "--checks" ∷ [] }
 
+abbrev pub decode_form : Row
+decode_form = record { command = codes "decode"; names = 3; options = codes "--bound" ∷ codes "--checks" ∷ [] }
+
 abbrev pub validation_form : Row
 validation_form = record { command = codes "validate"; names = 3; options = [] }
 

@@ -6,6 +6,7 @@ use plan_model::{Checks, Style};
 pub enum Asked<'a> {
     Translation(Translation<'a>),
     Bound(Bounding<'a>),
+    Decoding(Decoding<'a>),
     Validation(Validation<'a>),
 }
 
@@ -24,6 +25,17 @@ pub struct Translation<'a> {
 pub struct Bounding<'a> {
     pub d: &'a str,
     pub p: &'a str,
+    pub checks: Checks,
+}
+
+/// A decoding that is asked for: the HDDL domain and problem and the plan, which are read, the numeral of the slots where one is
+/// given, and the checks of preconditions.
+#[derive(Clone, Copy)]
+pub struct Decoding<'a> {
+    pub d: &'a str,
+    pub p: &'a str,
+    pub plan: &'a str,
+    pub numeral: Option<&'a str>,
     pub checks: Checks,
 }
 

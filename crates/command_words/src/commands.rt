@@ -19,6 +19,14 @@ pub enum Command<'a> {
         p: &'a str,
         checks: Checks,
     },
+    /// Read the HDDL domain `d` and problem `p`, and print the decomposition tree that the plan in `plan` spells.
+    Decode {
+        d: &'a str,
+        p: &'a str,
+        plan: &'a str,
+        bound: Option<&'a str>,
+        checks: Checks,
+    },
     /// Read the PDDL domain `pd` and problem `pp`, and tell whether the list in `plan` is a plan
     /// of them.
     Validate {

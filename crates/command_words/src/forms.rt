@@ -25,6 +25,12 @@ pub(crate) const BOUND: Form<'static> = Form {
     options: &["--checks"],
 };
 
+pub(crate) const DECODING: Form<'static> = Form {
+    command: "decode",
+    names: 3,
+    options: &["--bound", "--checks"],
+};
+
 pub(crate) const VALIDATION: Form<'static> = Form {
     command: "validate",
     names: 3,

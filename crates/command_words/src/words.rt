@@ -1,10 +1,10 @@
 ghost use Rattle.std.specs.Prelude.{IfSome, IfNone};
 ghost use Rattle.command_words.specs.Names.{words_of};
-ghost use Rattle.command_words.specs.Words.{AreOfAForm, AskFor, Asks, AsksBound, AsksTranslation, AsksValidation, BoundRequest, SayBound, SayTranslation, SayValidation, TranslationRequest, ValidationRequest, bound_of, request_of, translation_of, validation_of};
+ghost use Rattle.command_words.specs.Words.{AreOfAForm, AskFor, Asks, AsksBound, AsksDecode, AsksTranslation, AsksValidation, BoundRequest, DecodeRequest, SayBound, SayDecode, SayTranslation, SayValidation, TranslationRequest, ValidationRequest, bound_of, decode_of, request_of, translation_of, validation_of};
 
-use crate::asking::{Asked, Bounding, Translation, Validation};
+use crate::asking::{Asked, Bounding, Decoding, Translation, Validation};
 use crate::commands::Command;
-use crate::forms::{BOUND, TRANSLATION, VALIDATION, parts_of};
+use crate::forms::{BOUND, DECODING, TRANSLATION, VALIDATION, parts_of};
 use crate::names::{Named, are_apart};
 use crate::options::{are_slots, checks, slots, style};
 
@@ -13,7 +13,8 @@ use crate::options::{are_slots, checks, slots, style};
 ///
 /// The forms are `translate D P OD OP` with the options `--bound N`, `--style adl|flat` and
 /// `--checks leaf|atonce`, where OD and OP differ and neither is D or P, `bound D P` with the
-/// option `--checks leaf|atonce`, and `validate PD PP PLAN`. Options come in any order and may be left out: the style is then
+/// option `--checks leaf|atonce`, `decode D P PLAN` with the options `--bound N` and
+/// `--checks leaf|atonce`, and `validate PD PP PLAN`. Options come in any order and may be left out: the style is then
 /// `adl`, and the checks are `leaf`.
 pub fn command(words: &[String]) -> Option<Command<'_>>
     ensures asked { IfSome result (AskFor (words_of words.now)) }
@@ -32,6 +33,13 @@ pub fn command(words: &[String]) -> Option<Command<'_>>
         Asked::Bound(asked) => Some(Command::Bound {
             d: asked.d,
             p: asked.p,
+            checks: asked.checks,
+        }),
+        Asked::Decoding(asked) => Some(Command::Decode {
+            d: asked.d,
+            p: asked.p,
+            plan: asked.plan,
+            bound: asked.numeral,
             checks: asked.checks,
         }),
         Asked::Validation(asked) => Some(Command::Validate {
@@ -53,6 +61,9 @@ pub fn asked(words: &[String]) -> Option<Asked<'_>>
     }
     if let Some(asked) = asked_bound(words) {
         return Some(Asked::Bound(asked));
+    }
+    if let Some(asked) = asked_decoding(words) {
+        return Some(Asked::Decoding(asked));
     }
     let asked = asked_validation(words)?;
     Some(Asked::Validation(asked))
@@ -112,6 +123,37 @@ fn bound<'a>(names: &'a [String], options: &'a [String]) -> Option<Bounding<'a>>
     Some(Bounding {
         d: d.as_str(),
         p: p.as_str(),
+        checks: checks(options)?,
+    })
+}
+
+fn asked_decoding(words: &[String]) -> Option<Decoding<'_>>
+    ensures asked { IfSome result (λ asked. AsksDecode (words_of words.now) (decode_of asked)) }
+    ensures other { IfNone result ((request : DecodeRequest) →
+        AsksDecode (words_of words.now) request → ⊥) }
+{
+    let parts = parts_of(words, &DECODING)?;
+    decoding(parts.names, parts.options)
+}
+
+fn decoding<'a>(names: &'a [String], options: &'a [String]) -> Option<Decoding<'a>>
+    ensures said { IfSome result (λ asked.
+        SayDecode (words_of names.now) (words_of options.now) (decode_of asked)) }
+    ensures other { IfNone result ((request : DecodeRequest) →
+        SayDecode (words_of names.now) (words_of options.now) request → ⊥) }
+{
+    let [d, p, plan] = names else {
+        return None;
+    };
+    let numeral = slots(options);
+    if !are_slots(numeral) {
+        return None;
+    }
+    Some(Decoding {
+        d: d.as_str(),
+        p: p.as_str(),
+        plan: plan.as_str(),
+        numeral,
         checks: checks(options)?,
     })
 }
