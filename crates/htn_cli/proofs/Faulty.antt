@@ -1,4 +1,5 @@
 -- The refusal of texts for their least fault.
+use Rattle.hddl_reader.specs.declared.sections.Language.TheVariants as language
 use Rattle.std.proofs.Common.{ℕ, ◌≡◌, ◌<◌, List, [], ◌∷◌, Some, slice_get, sym, subst, arith}
 use Rattle.htn_base.specs.declared.fault.Fault.{Fault}
 use Rattle.hddl_reader.specs.declared.sections.Language.{Language}
@@ -6,7 +7,7 @@ use Rattle.text_values.specs.TextFaults.{IsLeastFault, in_domain, in_problem}
 use Rattle.command_words.specs.Names.{Word}
 use Rattle.htn_cli.specs.Faults.{IsFaultAt, IsNoLimit, limit_code}
 use Rattle.htn_cli.specs.Stops.{IsRefusalOf, StopsFault, StopsPlan}
-use Rattle.htn_cli.specs.Validation.{IsLeastOfThree, of_problem, of_plan}
+use Rattle.htn_cli.specs.LeastFaults.{IsLeastWithPlan, of_problem, of_third}
 use Rattle.htn_cli.specs.declared.faults.Place.{Place}
 use Rattle.htn_cli.specs.declared.refusal.Failure.TheVariants as failure
 use Rattle.htn_cli.specs.declared.refusal.Limit.TheVariants as limit
@@ -18,9 +19,9 @@ pub one_of_two : (l : Language) (d p : List ℕ) (file code at : ℕ) → IsLeas
 one_of_two l d p file code at (in_domain f) = omega arith
 one_of_two l d p file code at (in_problem table raw good f) = omega arith
 
-pub one_of_three_files : (d p plan : List ℕ) (file code at : ℕ) → IsLeastOfThree d p plan file code at → file < 3
+pub one_of_three_files : (d p plan : List ℕ) (file code at : ℕ) → IsLeastWithPlan language.Pddl d p plan file code at → file < 3
 one_of_three_files d p plan file code at (of_problem f) = let l = one_of_two _ d p file code at f in omega (arith, l)
-one_of_three_files d p plan file code at (of_plan none f) = omega arith
+one_of_three_files d p plan file code at (of_third none f) = omega arith
 
 module _ (names : List Word) (IsLeast : (file code at : ℕ) → Type 0) where
   pub fault_at : (place : Place) (file code at : ℕ) → slice_get names file ≡ Some place.name.now → place.at ≡ at → IsLeast file code at → IsFaultAt names IsLeast place code
@@ -41,7 +42,7 @@ module _ (names : List Word) (IsLeast : (file code at : ℕ) → Type 0) where
       stops_for place x.code (fault_at place x.file x.code x.at (name_is (below x.file x.code x.at here)) at_is here) refusal is
 
 -- the refusal of three texts for their least fault
-pub fault_stops_plan : (names : List Word) (d p l : List ℕ) (refusal : Refusal) → StopsFault names (IsLeastOfThree d p l) refusal → StopsPlan names d p l refusal
+pub fault_stops_plan : (names : List Word) (d p l : List ℕ) (refusal : Refusal) → StopsFault names (IsLeastWithPlan language.Pddl d p l) refusal → StopsPlan names d p l refusal
 fault_stops_plan names d p l (refused.Fault place code) stops = stops
 fault_stops_plan names d p l (refused.Limit (limit.Text counted place)) stops = stops
 fault_stops_plan names d p l (refused.Failure failure.Memory) stops = tt

@@ -1,5 +1,5 @@
 -- What a run promises of the problem that its inputs spell, from what it wrote and told.
-use Rattle.std.proofs.Common.{ℕ, ◌≡◌, ◌≤◌, ◌++◌, Bool, List, [], ◌∷◌, Option, Some, None, IfSome, option_map, codes, refl, sym, ap, ◌∙◌, subst, inl, inr, arith}
+use Rattle.std.proofs.Common.{ℕ, ◌≡◌, ◌≤◌, Bool, List, [], ◌∷◌, Option, Some, None, IfSome, option_map, refl, sym, ◌∙◌, subst, inl, inr, arith}
 use Rattle.outside_io.specs.Folder.{Folder, file_of}
 use Rattle.outside_io.specs.Files.{FilesState}
 use Rattle.outside_io.specs.Sink.{SinkState}
@@ -17,16 +17,15 @@ use Rattle.plan_model.proofs.plan_meaning.FailingLaws.{each_is_plan_or_fails}
 use Rattle.plan_model.specs.declared.causes.FailWhy.{FailWhy}
 use Rattle.plan_proof.specs.Headline.{Headline, HeadlineAtBound}
 use Rattle.plan_proof.proofs.texts.SamePlans.{spelled-plans}
-use Rattle.plan_proof.proofs.values.Headlines.{printed_too, headline_of, headline_at_bound_of}
+use Rattle.plan_proof.proofs.values.Headlines.{headline_of, headline_at_bound_of}
 use Rattle.plan_proof.proofs.machine.Bounds.{loses_nothing}
-use Rattle.plan_proof.specs.OneGraph.{HaveOneGraph}
-use Rattle.plan_proof.proofs.one.OneGraph.{one_graph}
-use Rattle.bound_calc.specs.NoBound.{NamesCycle, spaced}
+use Rattle.decode_answers.specs.DecodeLaws.{ValuesAreDecodedAlike}
 use Rattle.command_words.specs.Names.{Word}
-use Rattle.command_words.specs.Words.{TranslationRequest, BoundRequest, ValidationRequest, Request, to_translate, to_bound, to_validate, number_of, Asks}
+use Rattle.command_words.specs.Words.{TranslationRequest, BoundRequest, ValidationRequest, Request, to_translate, to_bound, to_decode, to_validate, Asks}
 use Rattle.htn_cli.specs.Answer.{Text, Output, Answer, refuses, gives, told_alone}
 use Rattle.htn_cli.specs.Answers.{Refuses, Gives, RefusesSize, RefusesFault, IsAnswerFor, past_slots, too_large, faulty, declined, given, IsAnswer}
 use Rattle.htn_cli.specs.Bounding.{RefusesBound, GivesBound}
+use Rattle.htn_cli.specs.Decoding.{GivesTree}
 use Rattle.htn_cli.specs.Ending.{Achieves, IsDone, IsRefused}
 use Rattle.htn_cli.specs.Inputs.{AreGot, AreWhole}
 use Rattle.htn_cli.specs.Left.{Stand, HoldTexts, Leaves}
@@ -38,12 +37,13 @@ use Rattle.htn_cli.specs.Sent.{TakesWhole, Told}
 use Rattle.htn_cli.specs.Slots.{RefusesSlots}
 use Rattle.htn_cli.specs.Texts.{Texts}
 use Rattle.htn_cli.specs.Told.{IsToldToRead, IsToldToHold, AreToldToRead}
-use Rattle.htn_cli.specs.Translation.{AreSlotsOf, AreWritten, RefusesTranslation, GivesTranslation, translation_output}
+use Rattle.htn_cli.specs.Translation.{AreWritten, RefusesTranslation, GivesTranslation, translation_output}
 use Rattle.htn_cli.specs.Validation.{AreConfirmed, RefusesPlan, GivesPlan}
 use Rattle.htn_cli.specs.promise.Headline.{KeepsPlans, HasHeadline}
 use Rattle.htn_cli.specs.promise.Bound.{TellsBound, HasBound}
 use Rattle.htn_cli.specs.promise.Plan.{TellsPlan, HasPlan}
-use Rattle.htn_cli.specs.promise.Finding.{TellsCycle, TellsFailure, TellsFinding, HasFinding}
+use Rattle.htn_cli.specs.promise.Tree.{TellsTree, HasTree}
+use Rattle.htn_cli.specs.promise.Finding.{TellsFailure, TellsFinding, HasFinding}
 use Rattle.htn_cli.specs.declared.status.Status.TheVariants as status
 use Rattle.htn_cli.specs.declared.refusal.Failure.TheVariants as failure
 use Rattle.htn_cli.specs.declared.refusal.Finding.{Finding}
@@ -53,22 +53,8 @@ use Rattle.htn_cli.specs.declared.refusal.Refusal.{Refusal}
 use Rattle.htn_cli.specs.declared.refusal.Refusal.TheVariants as refused
 use Rattle.htn_cli.proofs.Endings.{asked_left, asked_done}
 use Rattle.htn_cli.proofs.Validations.{sound_apart}
-use Rattle.htn_cli.proofs.SameCycles.{named_back, words_same}
-
--- The problem of two texts.
-module _ (d p : List ℕ) (checks : Checks) (c : Compiled) (source : SpellProblem d p checks c) where
-  graph : (h : Hddl) (k : Compiled) → IsHddlOf d p h → IsCompiled h checks k → HaveOneGraph k c
-  graph h k s is = one_graph d p source.value h checks c k source.read.spelled s source.read.sound.value source.compiled_is is
-
-  -- each problem that they spell has the same bound
-  bound_of_each : (n : ℕ) → IsBound c n → (h : Hddl) (k : Compiled) → IsHddlOf d p h → IsCompiled h checks k → IsBound k n
-  bound_of_each n bound h k s is = ((graph h k s is).bound n).1 bound
-
-  -- and the same named cycle
-  cycle_of_each : (words : List ℕ) → NamesCycle c words → (err err' : SinkState) → Told (line_of (refused.Finding (finding.NotTailRecursive words))) err err' → TellsCycle checks d p err err'
-  cycle_of_each words (edges, named, is) err err' told h k s compiled =
-      let line = is ∙ ap spaced (sym (words_same k c (graph h k s compiled) edges)) in
-      (edges, named_back k c (graph h k s compiled) edges named, subst (λ z. Told (codes "not tail-recursive:" ++ z ++ codes "\n") err err') line told)
+use Rattle.htn_cli.proofs.EachProblem.{slots_given, slots_computed, bound_of_each, cycle_of_each, faithful_of_each}
+use Rattle.htn_cli.proofs.TreeTold.{tree_here, none_here}
 
 -- The texts of a translation, and its number of slots.
 module _ (request : TranslationRequest) (d p : List ℕ) (out out' : SinkState) (texts : Texts) (slots : ℕ) (written : AreWritten request d p texts slots) where
@@ -95,23 +81,15 @@ module _ (request : TranslationRequest) (d p : List ℕ) (out out' : SinkState) 
         subst (λ (z : Type 0). z) (λ i. HeadlineAtBound d p request.checks slots (printed_domain_is i) (printed_problem_is i))
         (headline_at_bound_of d p source.value request.checks c slots request.style written.translated.value source.read.spelled written.translated.printed source.read.ordered)
 
-    slots_given_here : (o : Option Word) → AreSlotsOf c o slots → IfSome o (λ numeral. slots ≡ number_of numeral)
-    slots_given_here None are = tt
-    slots_given_here (Some numeral) are = are
-
-    slots_computed : (o : Option Word) → o ≡ None → AreSlotsOf c o slots → IsBound c slots
-    slots_computed None e are = are
-    slots_computed (Some numeral) e are = absurd (cc)
-
     pub keeps : TakesWhole (slots_line slots) out out' → KeepsPlans request d p od op out out'
     keeps told = record {
       slots = slots;
       told = told;
-      given = slots_given_here request.numeral written.source.slots_are;
+      given = slots_given c slots request.numeral written.source.slots_are;
       headline = headline_here;
       at_bound = at_bound_here;
       open_leaves = λ h k s is tree order q scheduled. (pending_open (network k) tree order q scheduled, open_pending (network k) tree order q scheduled);
-      nothing_lost = λ none h k s is. loses_nothing h request.checks k is slots (bound_of_each d p request.checks c source slots (slots_computed request.numeral none written.source.slots_are) h k s is) slots od op (omega arith) (headline_here h k s is);
+      nothing_lost = λ none h k s is. loses_nothing h request.checks k is slots (bound_of_each d p request.checks c source slots (slots_computed c slots request.numeral none written.source.slots_are) h k s is) slots od op (omega arith) (headline_here h k s is);
     }
 
 -- A bound that was told.
@@ -125,11 +103,9 @@ module _ (request : BoundRequest) (d p : List ℕ) (out out' : SinkState) (n : �
     told = told;
     is = each;
     every_front = λ h k s is tree order front. every_front_is_within h request.checks k is n (each h k s is) tree order front;
-    nothing_lost = λ h k s is slots l style value printed. (
-        let printed_here = printed_too d p h source.value request.checks k c slots style value s source.read.spelled printed source.compiled_is in
+    nothing_lost = λ h k s is slots l style value printed.
         loses_nothing h request.checks k is n (each h k s is) slots (domain_text value) (problem_text value) l
-        (headline_of d p source.value request.checks c slots style value source.read.spelled printed_here source.read.ordered h k s is)
-        );
+        (faithful_of_each d p request.checks c source slots style value h k s printed h k s is);
   }
 
 -- A list that was called a plan, or none.
@@ -155,12 +131,16 @@ module _ (pd pp plan : List ℕ) where
         );
   }
 
--- What was found of the texts of a request.
-pub finding_here : (request : Request) (texts : List (List ℕ)) (f : Finding) → Refuses request texts (refused.Finding f) → (err err' : SinkState) → Told (line_of (refused.Finding f)) err err' → TellsFinding request texts err err'
-finding_here (to_translate r) (d ∷ p ∷ []) (finding.NotTailRecursive words) (none, (c, source, named)) err err' line = cycle_of_each d p r.checks c source words named err err' line
-finding_here (to_bound r) (d ∷ p ∷ []) (finding.NotTailRecursive words) (c, source, named) err err' line = cycle_of_each d p r.checks c source words named err err' line
-finding_here (to_validate r) (pd ∷ pp ∷ plan ∷ []) (finding.NotAPlan step why) x err err' line = failure_here pd pp plan step why err err' line x
-finding_here _ _ f x err err' line = absurd x
+-- What was found of the texts of a request, where the values of two texts are decoded alike.
+pub finding_here : (alike : ValuesAreDecodedAlike) (request : Request) (texts : List (List ℕ)) (f : Finding) → Refuses request texts (refused.Finding f) → (err err' : SinkState) → Told (line_of (refused.Finding f)) err err' → TellsFinding request texts err err'
+finding_here alike (to_translate r) (d ∷ p ∷ []) (finding.NotTailRecursive words) (none, (c, source, named)) err err' line = cycle_of_each d p r.checks c source words named err err' line
+finding_here alike (to_bound r) (d ∷ p ∷ []) (finding.NotTailRecursive words) (c, source, named) err err' line = cycle_of_each d p r.checks c source words named err err' line
+finding_here alike (to_decode r) (d ∷ p ∷ plan ∷ []) (finding.NotTailRecursive words) (none, (c, steps, spelled, named)) err err' line =
+    inl (none, cycle_of_each d p r.checks c spelled.spelled.problem_is words named err err' line)
+finding_here alike (to_decode r) (d ∷ p ∷ plan ∷ []) (finding.SpellsNoSolution step why) (c, steps, slots, is, fails) err err' line =
+    inr (none_here alike r d p plan c steps slots is step why fails err err' line)
+finding_here alike (to_validate r) (pd ∷ pp ∷ plan ∷ []) (finding.NotAPlan step why) x err err' line = failure_here pd pp plan step why err err' line x
+finding_here alike _ _ f x err err' line = absurd x
 
 -- An output comes from all texts, which are given; and a finding from all texts, which are declined.
 abbrev Come : Request → List (List ℕ) → Answer → Type 0
@@ -256,18 +236,27 @@ module _ (words : List Word) (files files' : FilesState) (out out' : SinkState) 
           let line : TakesWhole valid_line out out' = subst (λ (z : Output). TakesWhole z.told out out') e a.stands.1 in
           plan_here pd pp plan out out' are line
 
+  pub tree_done : ValuesAreDecodedAlike → HasTree words files out out'
+  tree_done alike r d p plan asked read =
+      go (achieved (to_decode r) asked (d ∷ p ∷ plan ∷ []) read) (gives_here (to_decode r) asked (d ∷ p ∷ plan ∷ []) read)
+    where
+      go : (a : Achieves files files' out out' (to_decode r)) → GivesTree r d p plan a.output → TellsTree r d p plan out out'
+      go a (c, steps, slots, text, is, has, e) =
+          let line : TakesWhole text out out' = subst (λ (z : Output). TakesWhole z.told out out') e a.stands.1 in
+          tree_here alike r d p plan c steps slots is text has out out' line
+
 -- a finding that was told, and no other refusal has this status
-pub finding_refused : (words : List Word) (files files' : FilesState) (out out' : SinkState) (refusal : Refusal) → IsRefused words files files' out out' refusal → status_of refusal ≡ status.Finding → (err err' : SinkState) → Told (line_of refusal) err err'
+pub finding_refused : (alike : ValuesAreDecodedAlike) (words : List Word) (files files' : FilesState) (out out' : SinkState) (refusal : Refusal) → IsRefused words files files' out out' refusal → status_of refusal ≡ status.Finding → (err err' : SinkState) → Told (line_of refusal) err err'
     → HasFinding words files err err'
-finding_refused words files files' out out' (refused.Finding f) left e err err' line request texts asked told =
+finding_refused alike words files files' out out' (refused.Finding f) left e err err' line request texts asked told =
     let left_here = asked_left words files files' out out' request (refused.Finding f) asked left in
     let is = left_here.0 in
     let x = come request is.texts (refuses (refused.Finding f)) is.answers in
-    finding_here request texts f (subst (λ z. Refuses request z (refused.Finding f)) (same_texts files (inputs_of request) is.texts texts is.got x.0 told) x.1) err err' line
-finding_refused words files files' out out' refused.Words left e err err' line request texts asked told = absurd (cc)
-finding_refused words files files' out out' (refused.Fault place code) left e err err' line request texts asked told = absurd (cc)
-finding_refused words files files' out out' (refused.Limit l) left e err err' line request texts asked told = absurd (cc)
-finding_refused words files files' out out' (refused.Failure (failure.Reading name)) left e err err' line request texts asked told = absurd (cc)
-finding_refused words files files' out out' (refused.Failure (failure.Writing name)) left e err err' line request texts asked told = absurd (cc)
-finding_refused words files files' out out' (refused.Failure failure.Telling) left e err err' line request texts asked told = absurd (cc)
-finding_refused words files files' out out' (refused.Failure failure.Memory) left e err err' line request texts asked told = absurd (cc)
+    finding_here alike request texts f (subst (λ z. Refuses request z (refused.Finding f)) (same_texts files (inputs_of request) is.texts texts is.got x.0 told) x.1) err err' line
+finding_refused alike words files files' out out' refused.Words left e err err' line request texts asked told = absurd (cc)
+finding_refused alike words files files' out out' (refused.Fault place code) left e err err' line request texts asked told = absurd (cc)
+finding_refused alike words files files' out out' (refused.Limit l) left e err err' line request texts asked told = absurd (cc)
+finding_refused alike words files files' out out' (refused.Failure (failure.Reading name)) left e err err' line request texts asked told = absurd (cc)
+finding_refused alike words files files' out out' (refused.Failure (failure.Writing name)) left e err err' line request texts asked told = absurd (cc)
+finding_refused alike words files files' out out' (refused.Failure failure.Telling) left e err err' line request texts asked told = absurd (cc)
+finding_refused alike words files files' out out' (refused.Failure failure.Memory) left e err err' line request texts asked told = absurd (cc)

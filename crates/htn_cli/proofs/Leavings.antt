@@ -5,8 +5,6 @@ use Rattle.std.proofs.lemmas.Fmt.{length-decimal-le_wide}
 use Rattle.htn_base.specs.Limits.{longest_output, most_slots}
 use Rattle.outside_io.specs.Files.{FilesState}
 use Rattle.outside_io.specs.Sink.{SinkState}
-use Rattle.hddl_reader.specs.declared.sections.Language.TheVariants as language
-use Rattle.text_values.specs.TextFaults.{IsLeastFault}
 use Rattle.plan_model.specs.declared.options.Checks.{Checks}
 use Rattle.plan_model.specs.declared.values.Compiled.{Compiled}
 use Rattle.plan_model.specs.task_networks.Bound.{itself}
@@ -20,7 +18,7 @@ use Rattle.htn_cli.specs.Answer.{Output, Answer, refuses, gives, told_alone}
 use Rattle.htn_cli.specs.Answers.{IsLeastOf, Refuses, Gives, RefusesFault, IsAnswerFor, past_slots, too_large, faulty, declined, given, IsAnswer}
 use Rattle.htn_cli.specs.Bounding.{GivesBound}
 use Rattle.htn_cli.specs.Ending.{Achieves}
-use Rattle.htn_cli.specs.Inputs.{AreGot, AreShort, AreWhole}
+use Rattle.htn_cli.specs.Inputs.{AreGot, AreWhole}
 use Rattle.htn_cli.specs.Left.{Leaves, StandsUpTo}
 use Rattle.htn_cli.specs.Lines.{slots_line, bound_line, valid_line}
 use Rattle.htn_cli.specs.Made.{output_of, texts_by, AreMadeWith, IsMadeWith, IsMadeFor, StopsMadeFor, manner_of, GivesOutput, NamesDiffer}
@@ -31,7 +29,6 @@ use Rattle.htn_cli.specs.Slots.{RefusesSlots}
 use Rattle.htn_cli.specs.Stops.{GivesTexts, StopsReading, StopsFault, StopsTexts, StopsPlan, StopsBound, IsGiven, StopsGiven, IsChosen, StopsChosen, StopsPrinted, IsWant, StopsDelivery, StopsOutput}
 use Rattle.htn_cli.specs.Texts.{texts_of}
 use Rattle.htn_cli.specs.Translation.{AreSlotsOf, IsForSlots, GivesTranslation, translation_output}
-use Rattle.htn_cli.specs.Validation.{AreConfirmed}
 use Rattle.htn_cli.specs.declared.output.Output.{Output as Made}
 use Rattle.htn_cli.specs.declared.output.Written.{Written}
 use Rattle.htn_cli.specs.declared.refusal.Failure.TheVariants as failure
@@ -151,34 +148,35 @@ output_within request old output is = go (gives output) is.answers
     go answer (declined refusal within whole x) = tt
     go answer (given o within whole g fits) = within
 
+-- A number of slots that is given.
+pub given_within : (numeral : Option Word) (g : Option ℕ) → IsGiven numeral g → IfSome (option_map number_of numeral) (λ n. n ≤ most_slots)
+given_within None g is = tt
+given_within (Some word) None is = absurd is
+given_within (Some word) (Some slots) is = let e = is.same in let l = is.few in omega (arith, e, l)
+
+module _ (request : Request) (old : FilesState) where
+  -- it is too great
+  slots_past : (n : ℕ) → slots_given request ≡ Some n → (refusal : Refusal) → RefusesSlots n refusal → IsAnswer request old (refuses refusal)
+  slots_past n e refusal stops = record { texts = []; got = tt; answers = past_slots n refusal refl e stops }
+
+  slots_stop : (n : ℕ) → slots_given request ≡ Some n → (refusal : Refusal) → RefusesSlots n refusal → StopsOutput request old old refusal
+  slots_stop n e (refused.Limit l) stops = (slots_past n e (refused.Limit l) stops, refl)
+  slots_stop n e refused.Words stops = absurd stops
+  slots_stop n e (refused.Fault place code) stops = absurd stops
+  slots_stop n e (refused.Finding f) stops = absurd stops
+  slots_stop n e (refused.Failure f) stops = absurd stops
+
+  pub given_refused : (numeral : Option Word) → slots_given request ≡ option_map number_of numeral → (refusal : Refusal) → StopsGiven numeral refusal → StopsOutput request old old refusal
+  given_refused None e refusal stops = absurd stops
+  given_refused (Some word) e refusal stops = slots_stop (number_of word) e refusal stops
+
 -- A translation.
 module _ (r : TranslationRequest) where
-  given_within : (numeral : Option Word) (g : Option ℕ) → IsGiven numeral g → IfSome (option_map number_of numeral) (λ n. n ≤ most_slots)
-  given_within None g is = tt
-  given_within (Some word) None is = absurd is
-  given_within (Some word) (Some slots) is = let e = is.same in let l = is.few in omega (arith, e, l)
-
   pub is_within : (g : Option ℕ) → IsGiven r.numeral g → IsWithin (to_translate r)
   is_within g is = given_within r.numeral g is
 
-  module _ (old : FilesState) where
-    -- the given number of slots is too great
-    slots_past : (n : ℕ) → slots_given (to_translate r) ≡ Some n → (refusal : Refusal) → RefusesSlots n refusal → IsAnswer (to_translate r) old (refuses refusal)
-    slots_past n e refusal stops = record { texts = []; got = tt; answers = past_slots n refusal refl e stops }
-
-    slots_stop : (n : ℕ) → slots_given (to_translate r) ≡ Some n → (refusal : Refusal) → RefusesSlots n refusal → StopsOutput (to_translate r) old old refusal
-    slots_stop n e (refused.Limit l) stops = (slots_past n e (refused.Limit l) stops, refl)
-    slots_stop n e refused.Words stops = absurd stops
-    slots_stop n e (refused.Fault place code) stops = absurd stops
-    slots_stop n e (refused.Finding f) stops = absurd stops
-    slots_stop n e (refused.Failure f) stops = absurd stops
-
-    pub given_stops : (refusal : Refusal) → StopsGiven r.numeral refusal → StopsOutput (to_translate r) old old refusal
-    given_stops refusal stops = go r.numeral refl stops
-      where
-        go : (o : Option Word) → r.numeral ≡ o → StopsGiven o refusal → StopsOutput (to_translate r) old old refusal
-        go None e stops = absurd stops
-        go (Some word) e stops = slots_stop (number_of word) (ap (option_map number_of) e) refusal stops
+  pub given_stops : (old : FilesState) (refusal : Refusal) → StopsGiven r.numeral refusal → StopsOutput (to_translate r) old old refusal
+  given_stops old refusal stops = given_refused (to_translate r) old r.numeral refl refusal stops
 
   module _ (d p : List ℕ) (c : Compiled) (spelled : SpellProblem d p r.checks c) (g : Option ℕ) (is : IsGiven r.numeral g) where
     abbrev Stopped : Refusal → Type 0

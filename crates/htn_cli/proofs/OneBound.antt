@@ -14,7 +14,7 @@ use Rattle.htn_cli.specs.declared.refusal.Limit.TheVariants as limit
 use Rattle.htn_cli.specs.declared.refusal.Refusal.{Refusal}
 use Rattle.htn_cli.specs.declared.refusal.Refusal.TheVariants as refused
 use Rattle.htn_cli.proofs.OneProblem.{bound_same, cycle_words_same, cycle_or_bound}
-use Rattle.htn_cli.proofs.OneTranslation.{one_cycle}
+use Rattle.htn_cli.proofs.OneSlots.{one_cycle}
 
 -- what follows from two texts without a fault
 abbrev pub BoundComes : BoundRequest → List ℕ → List ℕ → Answer → Type 0

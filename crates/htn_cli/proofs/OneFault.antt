@@ -1,20 +1,26 @@
 -- Texts have one least fault, and so one refusal for it.
 use Rattle.std.proofs.Common.{ℕ, nat_eq, ◌≡◌, if◌then◌else◌, List, [], ◌∷◌, ◌++◌, codes, decimal, Option, Some, slice_get, refl, sym, ap, ◌∙◌}
 use Rattle.text_forms.specs.Faults.{fault}
+use Rattle.hddl_reader.specs.declared.sections.Language.{Language}
 use Rattle.hddl_reader.specs.declared.sections.Language.TheVariants as language
 use Rattle.plan_model.specs.declared.steps.GroundAction.{GroundAction}
+use Rattle.plan_model.specs.declared.values.Compiled.{Compiled}
 use Rattle.plan_model.specs.declared.values.Pddl.{Pddl}
+use Rattle.plan_text.specs.Plans.{IsPlanRead}
 use Rattle.text_values.specs.FaultWords.{fault_word}
+use Rattle.text_values.specs.TextFaults.{HaveNoFault}
 use Rattle.text_values.proofs.OneFault.{have_one_fault, has_one_plan_fault}
 use Rattle.command_words.specs.Names.{Word}
-use Rattle.command_words.specs.Words.{Request, to_translate, to_bound, to_validate}
+use Rattle.command_words.specs.Words.{DecodeRequest, Request, to_translate, to_bound, to_decode, to_validate}
 use Rattle.htn_cli.specs.Answer.{Output, refuses}
 use Rattle.htn_cli.specs.Answers.{IsLeastOf, Refuses, Gives, RefusesFault}
+use Rattle.htn_cli.specs.Decoding.{SpellSteps}
 use Rattle.htn_cli.specs.Faults.{IsFaultAt, limit_code, place_text, fault_text}
 use Rattle.htn_cli.specs.OneAnswer.{TellTheSame}
 use Rattle.htn_cli.specs.Refusal.{counted_word}
 use Rattle.htn_cli.specs.Requests.{inputs_of}
-use Rattle.htn_cli.specs.Validation.{IsLeastOfThree, of_problem, of_plan, Spell}
+use Rattle.htn_cli.specs.LeastFaults.{IsLeastWithPlan, of_problem, of_third}
+use Rattle.htn_cli.specs.Validation.{Spell}
 use Rattle.htn_cli.specs.declared.faults.Counted.{Counted}
 use Rattle.htn_cli.specs.declared.faults.Counted.TheVariants.{Depth, Subtasks, Types}
 use Rattle.htn_cli.specs.declared.faults.Place.{Place}
@@ -46,22 +52,32 @@ one_counted : (one other : Counted) → limit_code one ≡ limit_code other → 
 one_counted one other e = sym (counted_back one) ∙ ap counted_by e ∙ counted_back other
 
 -- of three texts
-module _ (domain problem plan : List ℕ) where
-  one_of_three : (file code at : ℕ) → IsLeastOfThree domain problem plan file code at → (other more place : ℕ) → IsLeastOfThree domain problem plan other more place → (file ≡ other) × (code ≡ more) × (at ≡ place)
-  one_of_three file code at (of_problem f) other more place (of_problem g) = (have_one_fault language.Pddl domain problem).one file code at f other more place g
-  one_of_three file code at (of_problem f) other more place (of_plan none g) = absurd ((have_one_fault language.Pddl domain problem).none none file code at f)
-  one_of_three file code at (of_plan none f) other more place (of_problem g) = absurd ((have_one_fault language.Pddl domain problem).none none other more place g)
-  one_of_three file code at (of_plan none f) other more place (of_plan also g) = let e = (has_one_plan_fault plan).one (fault code at) (fault more place) f g in (refl, ap (λ z. z.code) e, ap (λ z. z.at) e)
+module _ (l : Language) (domain problem plan : List ℕ) where
+  one_of_three : (file code at : ℕ) → IsLeastWithPlan l domain problem plan file code at → (other more place : ℕ) → IsLeastWithPlan l domain problem plan other more place → (file ≡ other) × (code ≡ more) × (at ≡ place)
+  one_of_three file code at (of_problem f) other more place (of_problem g) = (have_one_fault l domain problem).one file code at f other more place g
+  one_of_three file code at (of_problem f) other more place (of_third none g) = absurd ((have_one_fault l domain problem).none none file code at f)
+  one_of_three file code at (of_third none f) other more place (of_problem g) = absurd ((have_one_fault l domain problem).none none other more place g)
+  one_of_three file code at (of_third none f) other more place (of_third also g) = let e = (has_one_plan_fault plan).one (fault code at) (fault more place) f g in (refl, ap (λ z. z.code) e, ap (λ z. z.at) e)
 
-  fault_or_spelled : (file code at : ℕ) → IsLeastOfThree domain problem plan file code at → (c : Pddl) (steps : List GroundAction) → Spell domain problem plan c steps → ⊥
-  fault_or_spelled file code at (of_problem f) c steps s = (have_one_fault language.Pddl domain problem).none s.value.faultless file code at f
-  fault_or_spelled file code at (of_plan none f) c steps s = (has_one_plan_fault plan).none steps s.list (fault code at) f
+  fault_or_read : (steps : List GroundAction) → HaveNoFault l domain problem → IsPlanRead plan steps
+      → (file code at : ℕ) → IsLeastWithPlan l domain problem plan file code at → ⊥
+  fault_or_read steps free read file code at (of_problem f) = (have_one_fault l domain problem).none free file code at f
+  fault_or_read steps free read file code at (of_third none f) = (has_one_plan_fault plan).none steps read (fault code at) f
+
+fault_or_spelled : (domain problem plan : List ℕ) (c : Pddl) (steps : List GroundAction) → Spell domain problem plan c steps
+    → (file code at : ℕ) → IsLeastWithPlan language.Pddl domain problem plan file code at → ⊥
+fault_or_spelled domain problem plan c steps s = fault_or_read language.Pddl domain problem plan steps s.value.faultless s.list
+
+fault_or_steps : (r : DecodeRequest) (domain problem plan : List ℕ) (c : Compiled) (steps : List GroundAction) → SpellSteps r domain problem plan c steps
+    → (file code at : ℕ) → IsLeastWithPlan language.Hddl domain problem plan file code at → ⊥
+fault_or_steps r domain problem plan c steps s = fault_or_read language.Hddl domain problem plan steps s.problem_is.read.faultless s.list
 
 one_least : (request : Request) (texts : List (List ℕ)) (file code at : ℕ) → IsLeastOf request texts file code at → (other more place : ℕ) → IsLeastOf request texts other more place
     → (file ≡ other) × (code ≡ more) × (at ≡ place)
 one_least (to_translate r) (d ∷ p ∷ []) file code at f other more place g = (have_one_fault language.Hddl d p).one file code at f other more place g
 one_least (to_bound r) (d ∷ p ∷ []) file code at f other more place g = (have_one_fault language.Hddl d p).one file code at f other more place g
-one_least (to_validate r) (d ∷ p ∷ plan ∷ []) file code at f other more place g = one_of_three d p plan file code at f other more place g
+one_least (to_decode r) (d ∷ p ∷ plan ∷ []) file code at f other more place g = one_of_three language.Hddl d p plan file code at f other more place g
+one_least (to_validate r) (d ∷ p ∷ plan ∷ []) file code at f other more place g = one_of_three language.Pddl d p plan file code at f other more place g
 one_least _ _ file code at f other more place g = absurd f
 
 -- texts that are declined have no fault
@@ -72,14 +88,21 @@ declined_faultless (to_translate r) (d ∷ p ∷ []) (refused.Limit (limit.Slots
 declined_faultless (to_translate r) (d ∷ p ∷ []) (refused.Limit (limit.Output n)) (c, slots, source, long) file code at f = (have_one_fault language.Hddl d p).none source.problem_is.read.faultless file code at f
 declined_faultless (to_bound r) (d ∷ p ∷ []) (refused.Finding (finding.NotTailRecursive words)) (c, s, named) file code at f = (have_one_fault language.Hddl d p).none s.read.faultless file code at f
 declined_faultless (to_bound r) (d ∷ p ∷ []) (refused.Limit limit.Bound) (n, (c, s, bound), past) file code at f = (have_one_fault language.Hddl d p).none s.read.faultless file code at f
-declined_faultless (to_validate r) (d ∷ p ∷ plan ∷ []) (refused.Limit (limit.Steps n)) (c, steps, s, e, many) file code at f = fault_or_spelled d p plan file code at f c steps s
-declined_faultless (to_validate r) (d ∷ p ∷ plan ∷ []) (refused.Finding (finding.NotAPlan step why)) (c, steps, s, fails) file code at f = fault_or_spelled d p plan file code at f c steps s.spelled
+declined_faultless (to_decode r) (d ∷ p ∷ plan ∷ []) (refused.Limit (limit.Steps n)) (c, steps, s, e, many) file code at f = fault_or_steps r d p plan c steps s file code at f
+declined_faultless (to_decode r) (d ∷ p ∷ plan ∷ []) (refused.Finding (finding.NotTailRecursive words)) (none, (c, steps, s, named)) file code at f = fault_or_steps r d p plan c steps s.spelled file code at f
+declined_faultless (to_decode r) (d ∷ p ∷ plan ∷ []) (refused.Limit limit.Bound) (none, (c, steps, n, s, bound, past)) file code at f = fault_or_steps r d p plan c steps s.spelled file code at f
+declined_faultless (to_decode r) (d ∷ p ∷ plan ∷ []) (refused.Limit (limit.Slots m)) (none, (c, steps, n, s, bound, past)) file code at f = fault_or_steps r d p plan c steps s.spelled file code at f
+declined_faultless (to_decode r) (d ∷ p ∷ plan ∷ []) (refused.Finding (finding.SpellsNoSolution step why)) (c, steps, slots, source, fails) file code at f = fault_or_steps r d p plan c steps source.spelled.spelled file code at f
+declined_faultless (to_decode r) (d ∷ p ∷ plan ∷ []) (refused.Limit (limit.Output n)) (c, steps, slots, text, source, have, e, long) file code at f = fault_or_steps r d p plan c steps source.spelled.spelled file code at f
+declined_faultless (to_validate r) (d ∷ p ∷ plan ∷ []) (refused.Limit (limit.Steps n)) (c, steps, s, e, many) file code at f = fault_or_spelled d p plan c steps s file code at f
+declined_faultless (to_validate r) (d ∷ p ∷ plan ∷ []) (refused.Finding (finding.NotAPlan step why)) (c, steps, s, fails) file code at f = fault_or_spelled d p plan c steps s.spelled file code at f
 declined_faultless _ _ refusal x file code at f = absurd x
 
 given_faultless : (request : Request) (texts : List (List ℕ)) (output : Output) → Gives request texts output → (file code at : ℕ) → IsLeastOf request texts file code at → ⊥
 given_faultless (to_translate r) (d ∷ p ∷ []) output (texts, slots, written, e) file code at f = (have_one_fault language.Hddl d p).none written.source.problem_is.read.faultless file code at f
 given_faultless (to_bound r) (d ∷ p ∷ []) output (n, (c, s, bound), small, e) file code at f = (have_one_fault language.Hddl d p).none s.read.faultless file code at f
-given_faultless (to_validate r) (d ∷ p ∷ plan ∷ []) output ((c, steps, s, is), e) file code at f = fault_or_spelled d p plan file code at f c steps s.spelled
+given_faultless (to_decode r) (d ∷ p ∷ plan ∷ []) output (c, steps, slots, text, source, have, e) file code at f = fault_or_steps r d p plan c steps source.spelled.spelled file code at f
+given_faultless (to_validate r) (d ∷ p ∷ plan ∷ []) output ((c, steps, s, is), e) file code at f = fault_or_spelled d p plan c steps s.spelled file code at f
 given_faultless _ _ output x file code at f = absurd x
 
 one_name : (one other : Option Word) (a b : Word) → one ≡ other → one ≡ Some a → other ≡ Some b → a ≡ b

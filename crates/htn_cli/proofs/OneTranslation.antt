@@ -1,45 +1,23 @@
 -- What a translation gives, or is declined for, is one thing.
-use Rattle.std.proofs.Common.{ℕ, ◌≡◌, ◌<◌, ◌≤◌, ◌^◌, ◌++◌, List, length, Option, Some, None, codes, refl, sym, ap, ◌∙◌, subst, inl, inr, arith}
-use Rattle.htn_base.specs.Limits.{longest_output, most_slots}
+use Rattle.std.proofs.Common.{ℕ, ◌≡◌, ◌≤◌, List, length, Some, refl, sym, ap, ◌∙◌, subst, inl, inr, arith}
+use Rattle.htn_base.specs.Limits.{longest_output}
 use Rattle.plan_model.specs.declared.values.Pddl.{Pddl}
 use Rattle.plan_model.specs.declared.values.Compiled.{Compiled}
 use Rattle.plan_texts.specs.PrintedTexts.{domain_text, problem_text}
-use Rattle.plan_model.specs.plan_meaning.Bound.{IsBound}
 use Rattle.slot_encoding.specs.encoded_texts.FullyEncoded.{IsFullyEncoded}
-use Rattle.bound_calc.specs.NoBound.{NamesCycle}
-use Rattle.command_words.specs.Names.{Word}
 use Rattle.command_words.specs.Words.{TranslationRequest}
 use Rattle.htn_cli.specs.Answer.{Output, Answer, refuses, gives}
 use Rattle.htn_cli.specs.OneAnswer.{TellTheSame}
 use Rattle.htn_cli.specs.Problem.{SpellProblem}
 use Rattle.htn_cli.specs.Refusal.{line_of}
-use Rattle.htn_cli.specs.Slots.{RefusesSlots}
 use Rattle.htn_cli.specs.Texts.{Texts, IsFirstTooLong, AreTranslated, AreTooLong}
-use Rattle.htn_cli.specs.Translation.{AreSlotsOf, manner_with, IsForSlots, RefusesTranslation, GivesTranslation, translation_output}
+use Rattle.htn_cli.specs.Translation.{manner_with, IsForSlots, RefusesTranslation, GivesTranslation, translation_output}
 use Rattle.htn_cli.specs.declared.refusal.Finding.TheVariants as finding
 use Rattle.htn_cli.specs.declared.refusal.Limit.TheVariants as limit
 use Rattle.htn_cli.specs.declared.refusal.Refusal.{Refusal}
 use Rattle.htn_cli.specs.declared.refusal.Refusal.TheVariants as refused
-use Rattle.htn_cli.proofs.OneProblem.{bound_same, cycle_words_same, cycle_or_bound, texts_same}
-
--- so many slots are past one limit
-pub past_few : (n : ℕ) (refusal : Refusal) → RefusesSlots n refusal → most_slots < n
-past_few n (refused.Limit limit.Bound) l = omega (arith, l)
-past_few n (refused.Limit (limit.Slots m)) (e, l, few) = l
-past_few n _ l = absurd l
-
-pub one_past : (n m : ℕ) → n ≡ m → (a b : Refusal) → RefusesSlots n a → RefusesSlots m b → TellTheSame (refuses a) (refuses b)
-one_past n m e (refused.Limit limit.Bound) (refused.Limit limit.Bound) l k = record { status = refl; line = refl; output = refl }
-one_past n m e (refused.Limit limit.Bound) (refused.Limit (limit.Slots i)) l (f, k, few) = absurd (omega (arith, e, l, few))
-one_past n m e (refused.Limit (limit.Slots i)) (refused.Limit limit.Bound) (f, l, few) k = absurd (omega (arith, e, k, few))
-one_past n m e (refused.Limit (limit.Slots i)) (refused.Limit (limit.Slots j)) (f, l, few) (g, k, less) =
-    record { status = refl; line = ap (λ z. line_of (refused.Limit (limit.Slots z))) (f ∙ e ∙ sym g); output = refl }
-one_past n m e (refused.Limit limit.Bound) _ l k = absurd k
-one_past n m e (refused.Limit (limit.Slots i)) _ l k = absurd k
-one_past n m e _ b l k = absurd l
-
-pub one_cycle : (words more : List ℕ) → words ≡ more → TellTheSame (refuses (refused.Finding (finding.NotTailRecursive words))) (refuses (refused.Finding (finding.NotTailRecursive more)))
-one_cycle words more e = record { status = refl; line = ap (λ z. line_of (refused.Finding (finding.NotTailRecursive z))) e; output = refl }
+use Rattle.htn_cli.proofs.OneProblem.{texts_same}
+use Rattle.htn_cli.proofs.OneSlots.{Follows, cycle, out, within, one_follows}
 
 one_long : (domain problem : List ℕ) (n m : ℕ) → IsFirstTooLong domain problem n → IsFirstTooLong domain problem m → n ≡ m
 one_long domain problem n m (inl (l, e)) (inl (k, f)) = e ∙ sym f
@@ -65,21 +43,6 @@ module _ (request : TranslationRequest) (d p : List ℕ) where
     long : (n : ℕ) → AreTooLong x.0 (manner_with request d p slots) n → Prints x slots (refuses (refused.Limit (limit.Output n)))
     written : (texts : Texts) (output : Output) → AreTranslated x.1.value x.0 (manner_with request d p slots) texts → output ≡ translation_output request.names texts slots
         → Prints x slots (gives output)
-
-  data Follows (x : Source) : Answer → Type 0 where
-    cycle : (words : List ℕ) → request.numeral ≡ None → NamesCycle x.0 words → Follows x (refuses (refused.Finding (finding.NotTailRecursive words)))
-    out : (n : ℕ) (refusal : Refusal) → request.numeral ≡ None → IsBound x.0 n → RefusesSlots n refusal → Follows x (refuses refusal)
-    within : (slots : ℕ) (a : Answer) → AreSlotsOf x.0 request.numeral slots → slots ≤ most_slots → Prints x slots a → Follows x a
-
-  bound_of : (x : Source) (slots : ℕ) → request.numeral ≡ None → AreSlotsOf x.0 request.numeral slots → IsBound x.0 slots
-  bound_of x slots e are = subst (λ o. AreSlotsOf x.0 o slots) e are
-
-  slots_by : (x y : Source) (o : Option Word) (n m : ℕ) → AreSlotsOf x.0 o n → AreSlotsOf y.0 o m → n ≡ m
-  slots_by x y (Some numeral) n m e f = e ∙ sym f
-  slots_by x y None n m e f = bound_same d p request.checks x.0 y.0 x.1 y.1 n m e f
-
-  abbrev cycle_not : (x y : Source) (words : List ℕ) (n : ℕ) → NamesCycle x.0 words → IsBound y.0 n → ⊥
-  cycle_not x y words n = cycle_or_bound d p request.checks x.0 y.0 x.1 y.1 words n
 
   texts_of_both : (x y : Source) (slots : ℕ) (v w : Pddl) → IsFullyEncoded x.0 slots request.style v → IsFullyEncoded y.0 slots request.style w → (domain_text v ≡ domain_text w) × (problem_text v ≡ problem_text w)
   texts_of_both x y slots v w e f = texts_same d p request.checks x.0 y.0 x.1 y.1 slots request.style v w e f
@@ -111,36 +74,27 @@ module _ (request : TranslationRequest) (d p : List ℕ) where
       let same : o ≡ q = e ∙ (λ i. translation_output request.names (record { domain = dl i; problem = pl i }) slots) ∙ sym f in
       record { status = refl; line = refl; output = ap Some same }
 
-  follows : (x y : Source) (a b : Answer) → Follows x a → Follows y b → TellTheSame a b
-  follows x y a b (cycle words e k) (cycle more f j) = one_cycle words more (cycle_words_same d p request.checks x.0 y.0 x.1 y.1 words more k j)
-  follows x y a b (cycle words e k) (out n c f l o) = absurd (cycle_not x y words n k l)
-  follows x y a b (cycle words e k) (within slots c s few q) = absurd (cycle_not x y words slots k (bound_of y slots e s))
-  follows x y a b (out n c f l o) (cycle words e k) = absurd (cycle_not y x words n k l)
-  follows x y a b (out n c e l o) (out m q f k u) = one_past n m (slots_by x y None n m l k) c q o u
-  follows x y a b (out n c e l o) (within slots q s few r) =
-      let same = slots_by x y None n slots l (bound_of y slots e s) in let past = past_few n c o in absurd (omega (arith, same, past, few))
-  follows x y a b (within slots c s few q) (cycle words e k) = absurd (cycle_not y x words slots k (bound_of x slots e s))
-  follows x y a b (within slots c s few q) (out n r e l o) =
-      let same = slots_by x y None slots n (bound_of x slots e s) l in let past = past_few n r o in absurd (omega (arith, same, past, few))
-  follows x y a b (within slots c s few q) (within more r t less u) =
-      let same = slots_by x y request.numeral slots more s t in same_prints x y slots a b q (subst (λ z. Prints y z b) (sym same) u)
+  abbrev Comes : Source → Answer → Type 0
+  Comes x = Follows request.numeral x.0 (Prints x)
 
-  printed : (c : Compiled) (slots : ℕ) (a : Answer) (source : IsForSlots request d p c slots) → Prints (c, source.problem_is) slots a → (x : Source) × Follows x a
-  printed c slots a source prints = ((c, source.problem_is), within slots a source.slots_are source.few prints)
+  printed : (c : Compiled) (slots : ℕ) (a : Answer) (source : IsForSlots request d p c slots) → Prints (c, source.problem_is) slots a → (x : Source) × Comes x a
+  printed c slots a source prints = ((c, source.problem_is), within slots a source.slots_are source.some source.few prints)
 
-  declines : (refusal : Refusal) → RefusesTranslation request d p refusal → (x : Source) × Follows x (refuses refusal)
+  declines : (refusal : Refusal) → RefusesTranslation request d p refusal → (x : Source) × Comes x (refuses refusal)
   declines (refused.Finding (finding.NotTailRecursive words)) (e, (c, source, named)) = ((c, source), cycle words e named)
   declines (refused.Limit limit.Bound) (e, (n, (c, source, bound), past)) = ((c, source), out n (refused.Limit limit.Bound) e bound past)
   declines (refused.Limit (limit.Slots m)) (e, (n, (c, source, bound), past)) = ((c, source), out n (refused.Limit (limit.Slots m)) e bound past)
   declines (refused.Limit (limit.Output n)) (c, slots, source, l) = printed c slots (refuses (refused.Limit (limit.Output n))) source (long n l)
   declines _ x = absurd x
 
-  gives_by : (output : Output) → GivesTranslation request d p output → (x : Source) × Follows x (gives output)
+  gives_by : (output : Output) → GivesTranslation request d p output → (x : Source) × Comes x (gives output)
   gives_by output (texts, slots, w, e) = printed w.compiled slots (gives output) w.source (written texts output w.translated e)
 
-  comes : (a : Answer) → TranslationComes request d p a → (x : Source) × Follows x a
+  comes : (a : Answer) → TranslationComes request d p a → (x : Source) × Comes x a
   comes (refuses refusal) is = declines refusal is
   comes (gives output) is = gives_by output is
 
   pub one_translated : (a b : Answer) → TranslationComes request d p a → TranslationComes request d p b → TellTheSame a b
-  one_translated a b is also = let x = comes a is in let y = comes b also in follows x.0 y.0 a b x.1 y.1
+  one_translated a b is also =
+      let x = comes a is in let y = comes b also in
+      one_follows d p request.checks request.numeral x.0 y.0 (Prints x.0) (Prints y.0) (λ slots some few. same_prints x.0 y.0 slots) a b x.1 y.1

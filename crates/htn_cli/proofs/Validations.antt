@@ -27,7 +27,8 @@ use Rattle.text_values.specs.PddlValues.{IsValueOf}
 use Rattle.plan_text.specs.Plans.{IsPlanFault, IsPlanRead}
 use Rattle.htn_cli.specs.declared.checked.Checked.TheVariants as checked
 use Rattle.htn_cli.specs.Checks.{IsChecked}
-use Rattle.htn_cli.specs.Validation.{Spell, IsLeastOfThree, of_plan}
+use Rattle.htn_cli.specs.LeastFaults.{IsLeastWithPlan, of_third}
+use Rattle.htn_cli.specs.Validation.{Spell}
 use Rattle.htn_cli.specs.Stops.{IsConfirmedFor, StopsFor}
 use Rattle.htn_cli.specs.declared.refusal.Finding.TheVariants as finding
 use Rattle.htn_cli.specs.declared.refusal.Limit.TheVariants as limit
@@ -154,5 +155,5 @@ module _ (value : Pddl) (plan : List ℕ) where
     fails_for step why c domain problem is = (value, c.0, record { spelled = spell domain problem is c.0 c.1; few = c.2.0 }, c.2.1)
 
 -- the fault of a plan's text is the least of three texts, where the two others have none
-pub least_of_plan : (domain problem plan : List ℕ) (file code at : ℕ) → HaveNoFault language.Pddl domain problem → (file ≡ 2) × IsPlanFault plan (fault code at) → IsLeastOfThree domain problem plan file code at
-least_of_plan domain problem plan file code at none is = subst (λ z. IsLeastOfThree domain problem plan z code at) (sym is.0) (of_plan none is.1)
+pub least_of_plan : (domain problem plan : List ℕ) (file code at : ℕ) → HaveNoFault language.Pddl domain problem → (file ≡ 2) × IsPlanFault plan (fault code at) → IsLeastWithPlan language.Pddl domain problem plan file code at
+least_of_plan domain problem plan file code at none is = subst (λ z. IsLeastWithPlan language.Pddl domain problem plan z code at) (sym is.0) (of_third none is.1)

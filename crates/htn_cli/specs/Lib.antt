@@ -11,7 +11,9 @@ pub mod Problem
 pub mod Texts
 pub mod Translation
 pub mod Bounding
+pub mod LeastFaults
 pub mod Validation
+pub mod Decoding
 pub mod Answers
 pub mod Left
 pub mod Ending

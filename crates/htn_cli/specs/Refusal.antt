@@ -5,6 +5,8 @@ use Rattle.htn_cli.specs.declared.status.Status.{Status}
 use Rattle.htn_cli.specs.declared.status.Status.TheVariants as status
 use Rattle.plan_model.specs.declared.causes.FailWhy.{FailWhy}
 use Rattle.plan_model.specs.declared.causes.FailWhy.TheVariants as why
+use Rattle.decoding.specs.declared.causes.Why.{Why}
+use Rattle.decoding.specs.declared.causes.Why.TheVariants as reason
 use Rattle.htn_cli.specs.Faults.{place_text, fault_text}
 use Rattle.htn_cli.specs.declared.faults.Counted.{Counted}
 use Rattle.htn_cli.specs.declared.faults.Counted.TheVariants.{Depth, Subtasks, Types}
@@ -65,16 +67,29 @@ limit_extent (limit.Text counted place) = codes " " ++ place_text place
 limit_extent (limit.Steps n) = codes " " ++ decimal n
 limit_extent (limit.Output n) = codes " " ++ decimal n
 
--- the word of why a step fails
+-- the word of why a step of a plan fails
 abbrev pub cause_word : FailWhy → List ℕ
 cause_word why.UnknownAction = codes "UnknownAction"
 cause_word why.Arguments = codes "Arguments"
 cause_word why.Condition = codes "Condition"
 cause_word why.GoalFalse = codes "GoalFalse"
 
+-- the word of why a list spells no solution
+abbrev pub why_word : Why → List ℕ
+why_word reason.UnknownAction = codes "UnknownAction"
+why_word reason.Arguments = codes "Arguments"
+why_word reason.SlotHolds = codes "SlotHolds"
+why_word reason.Waiting = codes "Waiting"
+why_word reason.SlotTaken = codes "SlotTaken"
+why_word reason.Constraint = codes "Constraint"
+why_word reason.Precondition = codes "Precondition"
+why_word reason.Unfinished = codes "Unfinished"
+why_word reason.GoalFalse = codes "GoalFalse"
+
 abbrev pub finding_text : Finding → List ℕ
 finding_text (finding.NotTailRecursive words) = codes "not tail-recursive:" ++ words
 finding_text (finding.NotAPlan step why) = codes "not a plan: step " ++ decimal step ++ codes " " ++ cause_word why
+finding_text (finding.SpellsNoSolution step why) = codes "not a plan: step " ++ decimal step ++ codes " " ++ why_word why
 
 abbrev pub failure_text : Failure → List ℕ
 failure_text (failure.Reading name) = codes "cannot read " ++ name.now

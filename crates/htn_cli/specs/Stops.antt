@@ -1,32 +1,36 @@
 -- How one step of a run is refused: what it leaves, and with which refusal it ends the run.
 use Rattle.std.specs.Prelude.{◌≡◌, ◌<◌, ◌≤◌, ◌^◌, ◌⊎◌, ℕ, List, [], ◌∷◌, Option, Some, None, IfSome, length}
-use Rattle.htn_base.specs.Limits.{longest_input, most_slots}
+use Rattle.htn_base.specs.Limits.{longest_input, longest_output, most_slots, most_steps}
 use Rattle.outside_io.specs.Files.{FilesState, GetFails, PutFails}
 use Rattle.outside_io.specs.Sink.{SinkState}
-use Rattle.plan_model.specs.declared.options.Checks.{Checks}
+use Rattle.plan_model.specs.declared.steps.GroundAction.{GroundAction}
 use Rattle.plan_model.specs.declared.values.Compiled.{Compiled}
 use Rattle.plan_model.specs.declared.values.Pddl.{Pddl}
 use Rattle.plan_model.specs.plan_meaning.Bound.{IsBound}
+use Rattle.plan_text.specs.Plans.{IsPlanFault, IsPlanRead}
+use Rattle.text_forms.specs.Faults.{fault}
+use Rattle.text_forms.specs.sheets.Sheets.{capped}
+use Rattle.decoding.specs.PrintedSteps.{FailsAt}
+use Rattle.hplan_text.specs.ShownSolutions.{HaveText}
 use Rattle.text_values.specs.PddlValues as pddl
 use Rattle.hddl_reader.specs.declared.sections.Language.TheVariants as language
-use Rattle.text_values.specs.TextFaults.{IsLeastFault}
 use Rattle.bound_calc.specs.NoBound.{NamesCycle}
 use Rattle.command_words.specs.Names.{Word, AreApart}
 use Rattle.command_words.specs.Bounds.{IsNumeral}
-use Rattle.command_words.specs.Words.{Request, translation_of, number_of}
+use Rattle.command_words.specs.Words.{Request, translation_of, decode_of, number_of}
 use Rattle.command_words.specs.declared.asking.Asked.{Asked}
 use Rattle.command_words.specs.declared.asking.Asked.TheVariants as asked
 use Rattle.htn_cli.specs.Answer.{Text, Output, refuses}
 use Rattle.htn_cli.specs.Answers.{IsAnswer, RefusesFault, Refuses}
 use Rattle.htn_cli.specs.Faults.{IsFaultAt, IsNoLimit, limit_code}
 use Rattle.htn_cli.specs.Inputs.{AreGot, AreShort, EndTooLarge, FailsToRead}
-use Rattle.htn_cli.specs.Problem.{SpellProblem}
 use Rattle.htn_cli.specs.Requests.{inputs_of, IsWithin}
 use Rattle.htn_cli.specs.Slots.{RefusesSlots}
 use Rattle.htn_cli.specs.Told.{Reads}
 use Rattle.htn_cli.specs.Texts.{AreTooLong}
-use Rattle.htn_cli.specs.Validation.{IsLeastOfThree, RefusesPlan, AreConfirmed}
-use Rattle.htn_cli.specs.Left.{Stand, FailsToPut, StandInPart, StandsUpTo}
+use Rattle.htn_cli.specs.LeastFaults.{IsLeastWithPlan}
+use Rattle.htn_cli.specs.Validation.{RefusesPlan, AreConfirmed}
+use Rattle.htn_cli.specs.Left.{FailsToPut, StandInPart, StandsUpTo}
 use Rattle.htn_cli.specs.Sent.{TakesThenFails, TakesThenStarves}
 use Rattle.htn_cli.specs.declared.faults.Place.{Place}
 use Rattle.htn_cli.specs.declared.manner.Manner.{Manner}
@@ -71,6 +75,10 @@ StopsFault names IsLeast (refused.Limit (limit.Text counted place)) = IsFaultAt 
 StopsFault names IsLeast (refused.Failure failure.Memory) = Unit {0}
 StopsFault names IsLeast _ = ⊥
 
+-- the third has this fault as a plan
+abbrev pub IsFaultOfThird : (plan : List ℕ) → (file code at : ℕ) → Type 0
+IsFaultOfThird plan file code at = (file ≡ 2) × IsPlanFault plan (fault code at)
+
 -- texts of all inputs of a request that give no output
 abbrev pub StopsTexts : Request → List (List ℕ) → Refusal → Type 0
 StopsTexts request texts (refused.Failure failure.Memory) = Unit {0}
@@ -85,7 +93,7 @@ IsConfirmedFor value plan = (domain problem : List ℕ) → pddl.IsValueOf domai
 abbrev pub StopsPlan : List Word → (domain problem plan : List ℕ) → Refusal → Type 0
 StopsPlan names domain problem plan (refused.Limit (limit.Steps n)) = RefusesPlan domain problem plan (refused.Limit (limit.Steps n))
 StopsPlan names domain problem plan (refused.Finding f) = RefusesPlan domain problem plan (refused.Finding f)
-StopsPlan names domain problem plan refusal = StopsFault names (IsLeastOfThree domain problem plan) refusal
+StopsPlan names domain problem plan refusal = StopsFault names (IsLeastWithPlan language.Pddl domain problem plan) refusal
 
 -- and a text that holds no plan of a value
 abbrev pub StopsFor : List Word → Pddl → List ℕ → Refusal → Type 0
@@ -143,6 +151,48 @@ abbrev pub StopsChosen : Compiled → Option ℕ → Refusal → Type 0
 StopsChosen compiled (Some given) refusal = ⊥
 StopsChosen compiled None refusal = StopsComputed compiled refusal
 
+-- a number of slots that may be asked for
+abbrev pub IsInRange : ℕ → Type 0
+IsInRange slots = (1 ≤ slots) × (slots ≤ most_slots)
+
+-- too many steps
+abbrev pub StopsSteps : List GroundAction → Refusal → Type 0
+StopsSteps steps (refused.Limit (limit.Steps n)) = (n ≡ length steps) × (most_steps < n)
+StopsSteps steps _ = ⊥
+
+-- steps that spell no solution with so many slots, or whose text is too long; or memory ran out
+abbrev pub StopsTreeWith : Compiled → ℕ → List GroundAction → Refusal → Type 0
+StopsTreeWith compiled slots steps (refused.Finding (finding.SpellsNoSolution step why)) = FailsAt compiled slots steps step why
+StopsTreeWith compiled slots steps (refused.Limit (limit.Output n)) =
+    (text : List ℕ) × HaveText compiled slots steps text × (n ≡ capped (length text)) × (longest_output < n)
+StopsTreeWith compiled slots steps (refused.Failure failure.Memory) = Unit {0}
+StopsTreeWith compiled slots steps _ = ⊥
+
+-- the number of slots is the given one, or else the bound
+module _ (compiled : Compiled) (given : Option ℕ) where
+  -- the text of the tree that steps spell
+  abbrev pub IsTreeFor : List GroundAction → List ℕ → Type 0
+  IsTreeFor steps text =
+      (slots : ℕ) × (length steps ≤ most_steps) × IsChosen compiled given slots × HaveText compiled slots steps text
+      × (length text ≤ longest_output)
+
+  -- steps without this text
+  abbrev pub StopsTree : List GroundAction → Refusal → Type 0
+  StopsTree steps refusal =
+      StopsSteps steps refusal
+      ⊎ ((length steps ≤ most_steps)
+      × (StopsChosen compiled given refusal
+      ⊎ ((slots : ℕ) × IsChosen compiled given slots × StopsTreeWith compiled slots steps refusal)))
+
+  -- and that of the steps of a text
+  abbrev pub IsToldFor : (plan text : List ℕ) → Type 0
+  IsToldFor plan text = (steps : List GroundAction) × IsPlanRead plan steps × IsTreeFor steps text
+
+  -- a text without it, where files have these names, and this is the third
+  abbrev pub StopsTelling : List Word → (plan : List ℕ) → Refusal → Type 0
+  StopsTelling names plan refusal =
+      StopsFault names (IsFaultOfThird plan) refusal ⊎ ((steps : List GroundAction) × IsPlanRead plan steps × StopsTree steps refusal)
+
 -- a put that was refused
 abbrev pub StopsPut : Word → FilesState → FilesState → Refusal → Type 0
 StopsPut name old new (refused.Failure (failure.Writing word)) = (word.now ≡ name) × PutFails old new name
@@ -185,4 +235,5 @@ IsRefusalOf place code _ = ⊥
 -- what is asked for keeps the rules of words: a numeral is one, and the outputs of a translation are apart
 abbrev pub IsWellAsked : Asked → Type 0
 IsWellAsked (asked.Translation t) = IfSome (translation_of t).numeral IsNumeral × AreApart (translation_of t).names
+IsWellAsked (asked.Decoding d) = IfSome (decode_of d).numeral IsNumeral
 IsWellAsked _ = Unit {0}

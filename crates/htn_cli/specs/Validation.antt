@@ -1,16 +1,13 @@
--- Whether a text holds a plan of two PDDL texts: the least fault of three texts, when they are refused, and what is given.
+-- Whether a text holds a plan of two PDDL texts: when they are refused, and what is given.
 -- Source: this project's; a plan as in Fox and Long, "PDDL2.1", JAIR 20, 2003, level 1, without times.
 use Rattle.std.specs.Prelude.{ℕ, ◌≡◌, ◌<◌, ◌≤◌, List, length}
 use Rattle.htn_base.specs.Limits.{most_steps}
-use Rattle.text_forms.specs.Faults.{fault}
-use Rattle.hddl_reader.specs.declared.sections.Language.TheVariants as language
 use Rattle.plan_model.specs.declared.steps.GroundAction.{GroundAction}
 use Rattle.plan_model.specs.declared.values.Pddl.{Pddl}
 use Rattle.plan_model.specs.plan_meaning.ClassicalPlan.{IsPlan}
 use Rattle.plan_model.specs.plan_meaning.FailingStep.{Fails}
-use Rattle.text_values.specs.TextFaults.{HaveNoFault, IsLeastFault}
 use Rattle.text_values.specs.PddlValues.{IsValueOf}
-use Rattle.plan_text.specs.Plans.{IsPlanFault, IsPlanRead}
+use Rattle.plan_text.specs.Plans.{IsPlanRead}
 use Rattle.htn_cli.specs.Answer.{Output, told_alone}
 use Rattle.htn_cli.specs.Lines.{valid_line}
 use Rattle.htn_cli.specs.declared.refusal.Finding.TheVariants as finding
@@ -20,11 +17,6 @@ use Rattle.htn_cli.specs.declared.refusal.Refusal.TheVariants as refused
 
 -- of the texts of a domain, a problem and a plan
 module _ (domain problem plan : List ℕ) where
-  -- their least fault: that of the PDDL texts, or, where these have none, that of the plan
-  pub data IsLeastOfThree : (file code at : ℕ) → Type 0 where
-    of_problem : {file code at : ℕ} → IsLeastFault language.Pddl domain problem file code at → IsLeastOfThree file code at
-    of_plan : {code at : ℕ} → HaveNoFault language.Pddl domain problem → IsPlanFault plan (fault code at) → IsLeastOfThree 2 code at
-
   -- they have no fault, and spell a problem of PDDL and a list of steps
   pub record Spell (c : Pddl) (steps : List GroundAction) : Type 0 where
     pub value : IsValueOf domain problem c

@@ -2,4 +2,5 @@ pub mod Problems
 pub mod Headline
 pub mod Bound
 pub mod Plan
+pub mod Tree
 pub mod Finding

@@ -9,6 +9,7 @@ mod bounding;
 mod building;
 mod checked;
 mod checking;
+mod decode;
 mod delivery;
 mod faults;
 mod laws;

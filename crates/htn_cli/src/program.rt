@@ -16,9 +16,11 @@ ghost use Rattle.htn_cli.specs.Stops.{IsWellAsked, StopsOutput};
 ghost use Rattle.htn_cli.specs.promise.Headline.{HasHeadline};
 ghost use Rattle.htn_cli.specs.promise.Bound.{HasBound};
 ghost use Rattle.htn_cli.specs.promise.Plan.{HasPlan};
+ghost use Rattle.htn_cli.specs.promise.Tree.{HasTree};
 ghost use Rattle.htn_cli.specs.promise.Finding.{HasFinding};
 
 use crate::bounding::bounding;
+use crate::decode::decode;
 use crate::delivery::deliver;
 use crate::output::Output;
 use crate::refusal::{Limit, Refusal};
@@ -27,6 +29,7 @@ use crate::telling::tell;
 use crate::translation::translation;
 use crate::validation::validation;
 use command_words::{Asked, asked};
+use decode_answers::values_are_decoded_alike;
 use outside_io::{Files, Sink};
 use std::alloc::Global;
 
@@ -59,6 +62,8 @@ pub fn run<F: Files, O: Sink, E: Sink>(
     ensures bound { result ≡ Status.Done → HasBound (words_of words.now)
         (F.state files.old) (O.state out.old) (O.state out.new) }
     ensures plan { result ≡ Status.Done → HasPlan (words_of words.now)
+        (F.state files.old) (O.state out.old) (O.state out.new) }
+    ensures tree { result ≡ Status.Done → HasTree (words_of words.now)
         (F.state files.old) (O.state out.old) (O.state out.new) }
     ensures finding { result ≡ Status.Finding → HasFinding (words_of words.now)
         (F.state files.old) (E.state err.old) (E.state err.new) }
@@ -102,6 +107,8 @@ pub fn run<F: Files, O: Sink, E: Sink>(
     ensures failed_write { (O.state out.old).faults < (O.state out.new).faults →
         result ≡ Status.WriteFault }
 {
+    // a law, which does nothing
+    values_are_decoded_alike();
     match act(alloc, words, files, out) {
         Ok(()) => Status::Done,
         Err(refusal) => {
@@ -128,6 +135,8 @@ fn act<'a, F: Files, O: Sink>(
     ensures stopped { IfErr result (CallsBefore (words_of words.now)
         (CallsAre (F.passed files.old) (F.passed files.new))) }
 {
+    // a law, which does nothing
+    values_are_decoded_alike();
     match asked(words) {
         None => Err(Refusal::Words),
         Some(asked) => perform(alloc, &asked, files, out),
@@ -177,6 +186,7 @@ fn output_for<'a, F: Files>(
     match asked {
         Asked::Translation(asked) => translation(alloc, asked, files),
         Asked::Bound(asked) => bounding(alloc, asked, files),
+        Asked::Decoding(asked) => decode(alloc, asked, files),
         Asked::Validation(asked) => validation(alloc, asked, files),
     }
 }

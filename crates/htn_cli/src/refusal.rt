@@ -1,9 +1,10 @@
 ghost use Rattle.std.specs.Prelude.{◌≡◌, ◌++◌, codes};
-ghost use Rattle.htn_cli.specs.Refusal.{cause_word, counted_word, status_of, failure_status, line_of};
+ghost use Rattle.htn_cli.specs.Refusal.{cause_word, counted_word, why_word, status_of, failure_status, line_of};
 ghost use Rattle.htn_cli.specs.Line.{line_text};
 
 use crate::faults::{Counted, Place};
 use crate::status::Status;
+use decoding::Why;
 use ground_state::FailWhy;
 use htn_base::Text;
 
@@ -45,6 +46,8 @@ pub enum Finding {
     NotTailRecursive(Text),
     /// The list is no plan: the first step that fails, counted from 1, and its first cause.
     NotAPlan(u32, FailWhy),
+    /// The list spells no solution: the step that fails, counted from 1, and its first cause.
+    SpellsNoSolution(u32, Why),
 }
 
 /// What failed.
@@ -175,6 +178,13 @@ impl Finding {
                     failure_end(*why),
                 )
             }
+            Finding::SpellsNoSolution(step, why) => {
+                (
+                    "not a plan: step ",
+                    Middle::Number(*step as u128),
+                    reason_end(*why),
+                )
+            }
         };
         Line {
             before,
@@ -193,6 +203,23 @@ fn failure_end(why: FailWhy) -> &'static str
         FailWhy::Arguments => " Arguments\n",
         FailWhy::Condition => " Condition\n",
         FailWhy::GoalFalse => " GoalFalse\n",
+    }
+}
+
+/// The line of a list that spells no solution, behind the number of the step.
+fn reason_end(why: Why) -> &'static str
+    ensures { result.now ≡ codes " " ++ why_word why ++ codes "\n" }
+{
+    match why {
+        Why::UnknownAction => " UnknownAction\n",
+        Why::Arguments => " Arguments\n",
+        Why::SlotHolds => " SlotHolds\n",
+        Why::Waiting => " Waiting\n",
+        Why::SlotTaken => " SlotTaken\n",
+        Why::Constraint => " Constraint\n",
+        Why::Precondition => " Precondition\n",
+        Why::Unfinished => " Unfinished\n",
+        Why::GoalFalse => " GoalFalse\n",
     }
 }
 

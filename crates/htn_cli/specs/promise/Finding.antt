@@ -1,6 +1,6 @@
 -- What is promised of a finding that was told, for all that the files tell of the inputs.
 -- Source: this project's.
-use Rattle.std.specs.Prelude.{ℕ, List, [], ◌∷◌}
+use Rattle.std.specs.Prelude.{ℕ, ◌≡◌, ◌⊎◌, List, [], ◌∷◌, None}
 use Rattle.outside_io.specs.Files.{FilesState}
 use Rattle.outside_io.specs.Sink.{SinkState}
 use Rattle.plan_model.specs.declared.options.Checks.{Checks}
@@ -15,7 +15,7 @@ use Rattle.plan_proof.specs.TextPlans.{IsPlanOf}
 use Rattle.bound_calc.specs.stratifier.NamedCycle.{IsNamed}
 use Rattle.bound_calc.specs.stratifier.CycleWords.{cycle_line}
 use Rattle.command_words.specs.Names.{Word}
-use Rattle.command_words.specs.Words.{Request, to_translate, to_bound, to_validate, Asks}
+use Rattle.command_words.specs.Words.{Request, to_translate, to_bound, to_decode, to_validate, Asks}
 use Rattle.htn_cli.specs.Told.{AreToldToRead}
 use Rattle.htn_cli.specs.Requests.{inputs_of}
 use Rattle.htn_cli.specs.Refusal.{line_of}
@@ -23,6 +23,7 @@ use Rattle.htn_cli.specs.Sent.{Told}
 use Rattle.htn_cli.specs.declared.refusal.Finding.TheVariants as finding
 use Rattle.htn_cli.specs.declared.refusal.Refusal.TheVariants as refused
 use Rattle.htn_cli.specs.promise.Problems.{ForEach}
+use Rattle.htn_cli.specs.promise.Tree.{TellsNoSolution}
 
 -- a problem that is not tail-recursive: the line tells its bad cycle that is named
 abbrev pub TellsCycle : (checks : Checks) (d p : List ℕ) → SinkState → SinkState → Type 0
@@ -45,6 +46,8 @@ pub record TellsFailure (pd pp plan : List ℕ) (err err' : SinkState) : Type 0 
 abbrev pub TellsFinding : Request → List (List ℕ) → SinkState → SinkState → Type 0
 TellsFinding (to_translate request) (d ∷ p ∷ []) err err' = TellsCycle request.checks d p err err'
 TellsFinding (to_bound request) (d ∷ p ∷ []) err err' = TellsCycle request.checks d p err err'
+TellsFinding (to_decode request) (d ∷ p ∷ plan ∷ []) err err' =
+    ((request.numeral ≡ None) × TellsCycle request.checks d p err err') ⊎ TellsNoSolution request d p plan err err'
 TellsFinding (to_validate request) (pd ∷ pp ∷ plan ∷ []) err err' = TellsFailure pd pp plan err err'
 TellsFinding _ _ err err' = ⊥
 

@@ -1,7 +1,7 @@
 use Rattle.std.proofs.Common.{sym, ◌∙◌, inl, inr, ⊎_elim, arith}
 use Rattle.command_words.specs.Names.{words_of}
 use Rattle.htn_cli.proofs.Texts.{Told-nothing}
-use Rattle.htn_cli.proofs.Headlines.{headline_done, bound_done, plan_done, finding_refused}
+use Rattle.htn_cli.proofs.Headlines.{headline_done, bound_done, plan_done, tree_done, finding_refused}
 use Rattle.htn_cli.proofs.Endings.{never_done, answered_refused, answered_done, past_all, past_slots_too, past_not_done, stays_done, stays_refused, words_refused, refused_for, write_fault, read_fault, shows, calm}
 use Rattle.htn_cli.proofs.CallsMade.{passes_finding}
 use Rattle.htn_cli.proofs.program.run.Goals as goal
@@ -22,6 +22,9 @@ returns-in-Ok-clause-bound g c = λ _. bound_done _ _ _ _ _ c.in-Ok.ensures.done
 
 pub returns-in-Ok-clause-plan : goal.returns-in-Ok-clause-plan
 returns-in-Ok-clause-plan g c = λ _. plan_done _ _ _ _ _ c.in-Ok.ensures.done
+
+pub returns-in-Ok-clause-tree : goal.returns-in-Ok-clause-tree
+returns-in-Ok-clause-tree g c = λ _. tree_done _ _ _ _ _ c.in-Ok.ensures.done c.values_are_decoded_alike.ensures
 
 pub returns-in-Ok-clause-past_all : goal.returns-in-Ok-clause-past_all
 returns-in-Ok-clause-past_all g c = λ n asks past. absurd (past_not_done _ _ _ _ _ n c.in-Ok.ensures.done asks (omega (arith, past)))
@@ -55,6 +58,9 @@ returns-in-Err-clause-bound g c = λ e. absurd (never_done c.in-Err.refusal (sym
 pub returns-in-Err-clause-plan : goal.returns-in-Err-clause-plan
 returns-in-Err-clause-plan g c = λ e. absurd (never_done c.in-Err.refusal (sym c.status-status.ensures ∙ e))
 
+pub returns-in-Err-clause-tree : goal.returns-in-Err-clause-tree
+returns-in-Err-clause-tree g c = λ e. absurd (never_done c.in-Err.refusal (sym c.status-status.ensures ∙ e))
+
 pub returns-in-Err-clause-quiet : goal.returns-in-Err-clause-quiet
 returns-in-Err-clause-quiet g c = λ e. absurd (never_done c.in-Err.refusal (sym c.status-status.ensures ∙ e))
 
@@ -64,7 +70,7 @@ returns-in-Err-clause-read_fault g c =
 
 pub returns-in-Err-clause-finding : goal.returns-in-Err-clause-finding
 returns-in-Err-clause-finding g c =
-    λ e. finding_refused (words_of c.args.words.now) (g.F.Files.state c.args.files.now) (g.F.Files.state c.act.new.files) (g.O.Sink.state c.args.out.now) (g.O.Sink.state c.act.new.out) c.in-Err.refusal c.in-Err.ensures.refused (sym c.status-status.ensures ∙ e) _ _ c.tell.ensures.told
+    λ e. finding_refused c.values_are_decoded_alike.ensures (words_of c.args.words.now) (g.F.Files.state c.args.files.now) (g.F.Files.state c.act.new.files) (g.O.Sink.state c.args.out.now) (g.O.Sink.state c.act.new.out) c.in-Err.refusal c.in-Err.ensures.refused (sym c.status-status.ensures ∙ e) _ _ c.tell.ensures.told
 
 pub returns-in-Err-clause-past_all : goal.returns-in-Err-clause-past_all
 returns-in-Err-clause-past_all g c =
@@ -106,7 +112,7 @@ returns-in-Err-clause-inputs_stay g c =
 
 pub returns-in-Err-clause-found : goal.returns-in-Err-clause-found
 returns-in-Err-clause-found g c =
-    λ e. passes_finding (words_of c.args.words.now) (g.F.Files.passed c.args.files.now) (g.F.Files.passed c.act.new.files) c.in-Err.refusal c.in-Err.ensures.stopped (sym c.status-status.ensures ∙ e) _ _ c.tell.ensures.told
+    λ e. passes_finding (words_of c.args.words.now) (g.F.Files.passed c.args.files.now) (g.F.Files.passed c.act.new.files) c.values_are_decoded_alike.ensures c.in-Err.refusal c.in-Err.ensures.stopped (sym c.status-status.ensures ∙ e) _ _ c.tell.ensures.told
 
 pub returns-in-Err-clause-passed : goal.returns-in-Err-clause-passed
 returns-in-Err-clause-passed g c = λ e. absurd (never_done c.in-Err.refusal (sym c.status-status.ensures ∙ e))

@@ -1,9 +1,10 @@
+use Rattle.hddl_reader.specs.declared.sections.Language.TheVariants as language
 use Rattle.std.proofs.Common.{[], ◌∷◌, subst}
 use Rattle.htn_base.specs.Limits.{most_steps}
 use Rattle.text_forms.specs.declared.sexpr_text.read_error.ReadError.TheVariants.{Bad}
 use Rattle.plan_text.specs.Plans.{RefusesPlan}
 use Rattle.htn_cli.specs.Checks.{IsChecked}
-use Rattle.htn_cli.specs.Validation.{IsLeastOfThree}
+use Rattle.htn_cli.specs.LeastFaults.{IsLeastWithPlan}
 use Rattle.htn_cli.proofs.Faulty.{bad_stops, fault_stops_plan, one_of_three_files}
 use Rattle.htn_cli.proofs.Validations.{sound_runnable, confirmed_for, too_many_for, fails_for, least_of_plan}
 use Rattle.htn_cli.proofs.validation.confirm_plan.Goals as goal
@@ -32,4 +33,4 @@ returns-in-Err-Bad-clause-refused c =
     let here : RefusesPlan 2 l (Bad c.in-Err-Bad.fault) = subst (RefusesPlan 2 l) c.in-Err-Bad.field-0-is c.in-Err-Bad.ensures.refused in
     let least = least_of_plan domain problem l c.in-Err-Bad.fault.file c.in-Err-Bad.fault.code c.in-Err-Bad.fault.at is.faultless here in
     fault_stops_plan names domain problem l c.refusal_for.result
-    (bad_stops names (IsLeastOfThree domain problem l) 3 (one_of_three_files domain problem l) c.place_of.result c.in-Err-Bad.fault c.in-Err-Bad.fault-is least c.place_of.ensures.name c.place_of.ensures.at c.refusal_for.result c.refusal_for.ensures)
+    (bad_stops names (IsLeastWithPlan language.Pddl domain problem l) 3 (one_of_three_files domain problem l) c.place_of.result c.in-Err-Bad.fault c.in-Err-Bad.fault-is least c.place_of.ensures.name c.place_of.ensures.at c.refusal_for.result c.refusal_for.ensures)

@@ -1,0 +1,86 @@
+-- What the problem of two texts is, each problem that they spell is: they have one bound, one named cycle and one meaning of lists.
+use Rattle.std.proofs.Common.{ℕ, ◌≡◌, ◌≤◌, ◌++◌, List, Option, Some, None, IfSome, codes, sym, ap, ◌∙◌, subst}
+use Rattle.htn_base.specs.Limits.{most_slots}
+use Rattle.outside_io.specs.Sink.{SinkState}
+use Rattle.plan_model.specs.declared.options.Checks.{Checks}
+use Rattle.plan_model.specs.declared.options.Style.{Style}
+use Rattle.plan_model.specs.declared.options.Style.TheVariants.{Adl}
+use Rattle.plan_model.specs.declared.steps.GroundAction.{GroundAction}
+use Rattle.plan_model.specs.declared.values.Compiled.{Compiled}
+use Rattle.plan_model.specs.declared.values.Hddl.{Hddl}
+use Rattle.plan_model.specs.declared.values.Pddl.{Pddl}
+use Rattle.plan_model.specs.plan_meaning.Bound.{IsBound}
+use Rattle.plan_model.specs.plan_meaning.Compilation.{IsCompiled}
+use Rattle.plan_texts.specs.FirstSeen.{IsHddlOf}
+use Rattle.plan_texts.specs.PrintedTexts.{domain_text, problem_text}
+use Rattle.slot_encoding.specs.Existence.{HasEncodedValue}
+use Rattle.slot_encoding.specs.Printed.{IsPrinted}
+use Rattle.slot_encoding.proofs.existence.Encoded.{has_encoded_value}
+use Rattle.slot_encoding.proofs.words.EncodedIsPrintable.{countable_printable}
+use Rattle.plan_proof.specs.Headline.{Headline, SpellsSolution}
+use Rattle.plan_proof.specs.OneGraph.{HaveOneGraph}
+use Rattle.plan_proof.proofs.one.OneGraph.{one_graph}
+use Rattle.plan_proof.proofs.values.Headlines.{printed_too, headline_of}
+use Rattle.bound_calc.specs.NoBound.{NamesCycle, spaced}
+use Rattle.command_words.specs.Names.{Word}
+use Rattle.command_words.specs.Words.{number_of}
+use Rattle.htn_cli.specs.Problem.{SpellProblem}
+use Rattle.htn_cli.specs.Refusal.{line_of}
+use Rattle.htn_cli.specs.Sent.{Told}
+use Rattle.htn_cli.specs.Translation.{AreSlotsOf}
+use Rattle.htn_cli.specs.promise.Finding.{TellsCycle}
+use Rattle.htn_cli.specs.declared.refusal.Finding.TheVariants as finding
+use Rattle.htn_cli.specs.declared.refusal.Refusal.TheVariants as refused
+use Rattle.htn_cli.proofs.SameCycles.{named_back, words_same}
+use Rattle.htn_cli.proofs.SomeCounts.{countable}
+
+-- the number of slots is the given one, or else the bound
+pub slots_given : (c : Compiled) (slots : ℕ) (o : Option Word) → AreSlotsOf c o slots → IfSome o (λ numeral. slots ≡ number_of numeral)
+slots_given c slots None are = tt
+slots_given c slots (Some numeral) are = are
+
+pub slots_computed : (c : Compiled) (slots : ℕ) (o : Option Word) → o ≡ None → AreSlotsOf c o slots → IsBound c slots
+slots_computed c slots o none are = subst (λ z. AreSlotsOf c z slots) none are
+
+module _ (d p : List ℕ) (checks : Checks) (c : Compiled) (source : SpellProblem d p checks c) where
+  graph : (h : Hddl) (k : Compiled) → IsHddlOf d p h → IsCompiled h checks k → HaveOneGraph k c
+  graph h k s is = one_graph d p source.value h checks c k source.read.spelled s source.read.sound.value source.compiled_is is
+
+  -- each problem that they spell has the same bound
+  pub bound_of_each : (n : ℕ) → IsBound c n → (h : Hddl) (k : Compiled) → IsHddlOf d p h → IsCompiled h checks k → IsBound k n
+  bound_of_each n bound h k s is = ((graph h k s is).bound n).1 bound
+
+  -- and the same named cycle
+  pub cycle_of_each : (words : List ℕ) → NamesCycle c words → (err err' : SinkState) → Told (line_of (refused.Finding (finding.NotTailRecursive words))) err err' → TellsCycle checks d p err err'
+  cycle_of_each words (edges, named, is) err err' told h k s compiled =
+      let line = is ∙ ap spaced (sym (words_same k c (graph h k s compiled) edges)) in
+      (edges, named_back k c (graph h k s compiled) edges named, subst (λ z. Told (codes "not tail-recursive:" ++ z ++ codes "\n") err err') line told)
+
+  -- two texts that are printed for one of them have the meaning of each
+  pub faithful_of_each : (slots : ℕ) (style : Style) (value : Pddl) (h : Hddl) (k : Compiled) → IsHddlOf d p h → IsPrinted h checks k slots style value
+      → Headline d p checks slots (domain_text value) (problem_text value)
+  faithful_of_each slots style value h k s printed =
+      let here = printed_too d p h source.value checks k c slots style value s source.read.spelled printed source.compiled_is in
+      headline_of d p source.value checks c slots style value source.read.spelled here source.read.ordered
+
+  -- and some texts are printed
+  module _ (slots : ℕ) (some : 1 ≤ slots) (few : slots ≤ most_slots) where
+    pub encoded : HasEncodedValue c slots Adl
+    encoded = has_encoded_value c slots Adl
+
+    printed : IsPrinted source.value checks c slots Adl encoded.value
+    printed = record {
+      sound = source.read.sound.value;
+      compiled = source.compiled_is;
+      printable =
+          countable_printable source.value checks c slots Adl encoded.value source.read.sound.value source.compiled_is encoded.encoded encoded.words
+          (countable source.value checks c slots source.read.sound source.compiled_is some few);
+      encoded = encoded.encoded;
+    }
+
+    pub each_faithful : Headline d p checks slots (domain_text encoded.value) (problem_text encoded.value)
+    each_faithful = headline_of d p source.value checks c slots Adl encoded.value source.read.spelled printed source.read.ordered
+
+    -- so what spells a solution of one spells one of the other
+    pub solution_here : (steps : List GroundAction) (h : Hddl) (k : Compiled) → IsHddlOf d p h → IsCompiled h checks k → SpellsSolution k slots steps → SpellsSolution c slots steps
+    solution_here steps h k s is x = ((each_faithful source.value c source.read.spelled source.compiled_is).plans steps).0 (((each_faithful h k s is).plans steps).1 x)
