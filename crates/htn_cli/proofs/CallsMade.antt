@@ -1,33 +1,27 @@
 -- The calls that a run makes, from those of its steps.
-use Rattle.std.proofs.Common.{ℕ, zero, suc, ◌≡◌, ◌<◌, ◌≤◌, ◌⊎◌, List, [], ◌∷◌, ◌++◌, length, slice_get, Option, Some, None, option_map, refl, sym, ap, ◌∙◌, subst, inl, inr, append_assoc}
+use Rattle.std.proofs.Common.{ℕ, ◌≡◌, ◌≤◌, ◌⊎◌, List, [], ◌∷◌, ◌++◌, length, slice_get, Option, Some, None, option_map, refl, sym, ap, ◌∙◌, subst, inl, inr, append_assoc}
 use Rattle.std.proofs.lemmas.List.{append-nil}
-use Rattle.htn_base.specs.Limits.{longest_input, longest_output}
-use Rattle.outside_io.specs.Calls.{Passed, got, got_none, stored}
+use Rattle.htn_base.specs.Limits.{longest_output}
+use Rattle.outside_io.specs.Calls.{Passed, got, got_none}
 use Rattle.outside_io.specs.Passed.{with_call}
 use Rattle.outside_io.specs.Files.{FilesState}
 use Rattle.outside_io.specs.Sink.{SinkState}
 use Rattle.decode_answers.specs.DecodeLaws.{ValuesAreDecodedAlike}
 use Rattle.command_words.specs.Names.{Word}
-use Rattle.command_words.specs.Words.{TranslationRequest, Request, to_translate, to_bound, to_decode, to_validate, number_of, Asks, AreOfAForm}
-use Rattle.htn_cli.specs.Answer.{Text, Output, Answer, refuses, gives, told_alone}
-use Rattle.htn_cli.specs.Answers.{Refuses, Gives, RefusesFault, IsAnswerFor, past_slots, too_large, faulty, declined, given}
-use Rattle.htn_cli.specs.Calling.{StopsGet, FailsGets, StopsGets, PassesInputs, StopsInputs, PassesRequest, StopsRequest}
-use Rattle.htn_cli.specs.Ending.{IsBeforePuts}
+use Rattle.command_words.specs.Words.{TranslationRequest, Request, to_translate, to_bound, to_decode, to_validate, number_of, Asks}
+use Rattle.htn_cli.specs.Answer.{Output, refuses, gives}
+use Rattle.htn_cli.specs.Answers.{Refuses, Gives, RefusesFault, past_slots, too_large, faulty, declined, given}
+use Rattle.htn_cli.specs.Calling.{StopsGet, StopsGets, PassesInputs, StopsInputs, PassesRequest, StopsRequest}
 use Rattle.htn_cli.specs.Inputs.{AreShort, AreWhole, EndTooLarge}
-use Rattle.htn_cli.specs.Lines.{slots_line, bound_line, valid_line}
-use Rattle.htn_cli.specs.Made.{output_of}
 use Rattle.htn_cli.specs.Passing.{asked_bytes, gets, puts, with_calls, CallsAre, Keeps, PassesDone, CallsBefore, PassesRefused, PassesFinding}
 use Rattle.htn_cli.specs.Refusal.{status_of, line_of}
 use Rattle.htn_cli.specs.Requests.{inputs_of, slots_given, IsWithin}
 use Rattle.htn_cli.specs.Sent.{TakesWhole, Told}
 use Rattle.htn_cli.specs.Slots.{RefusesSlots}
 use Rattle.htn_cli.specs.Stops.{StopsTexts, StopsGiven, StopsDelivery}
-use Rattle.htn_cli.specs.Translation.{translation_output}
-use Rattle.htn_cli.specs.promise.Finding.{TellsFinding}
 use Rattle.htn_cli.specs.declared.status.Status.{Status}
 use Rattle.htn_cli.specs.declared.status.Status.TheVariants as status
 use Rattle.htn_cli.specs.declared.refusal.Failure.TheVariants as failure
-use Rattle.htn_cli.specs.declared.refusal.Finding.{Finding}
 use Rattle.htn_cli.specs.declared.refusal.Limit.TheVariants as limit
 use Rattle.htn_cli.specs.declared.refusal.Refusal.{Refusal}
 use Rattle.htn_cli.specs.declared.refusal.Refusal.TheVariants as refused

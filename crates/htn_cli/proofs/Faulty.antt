@@ -1,6 +1,6 @@
 -- The refusal of texts for their least fault.
 use Rattle.hddl_reader.specs.declared.sections.Language.TheVariants as language
-use Rattle.std.proofs.Common.{ℕ, ◌≡◌, ◌<◌, List, [], ◌∷◌, Some, slice_get, sym, subst, arith}
+use Rattle.std.proofs.Common.{ℕ, ◌≡◌, ◌<◌, List, Some, slice_get, sym, subst, arith}
 use Rattle.htn_base.specs.declared.fault.Fault.{Fault}
 use Rattle.hddl_reader.specs.declared.sections.Language.{Language}
 use Rattle.text_values.specs.TextFaults.{IsLeastFault, in_domain, in_problem}

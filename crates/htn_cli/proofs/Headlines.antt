@@ -1,9 +1,8 @@
 -- What a run promises of the problem that its inputs spell, from what it wrote and told.
-use Rattle.std.proofs.Common.{ℕ, ◌≡◌, ◌≤◌, Bool, List, [], ◌∷◌, Option, Some, None, IfSome, option_map, refl, sym, ◌∙◌, subst, inl, inr, arith}
+use Rattle.std.proofs.Common.{ℕ, ◌≡◌, Bool, List, [], ◌∷◌, Option, Some, None, IfSome, option_map, refl, sym, ◌∙◌, subst, inl, inr, arith}
 use Rattle.outside_io.specs.Folder.{Folder, file_of}
 use Rattle.outside_io.specs.Files.{FilesState}
 use Rattle.outside_io.specs.Sink.{SinkState}
-use Rattle.plan_model.specs.declared.options.Checks.{Checks}
 use Rattle.plan_model.specs.declared.values.Compiled.{Compiled}
 use Rattle.plan_model.specs.declared.values.Hddl.{Hddl}
 use Rattle.plan_texts.specs.FirstSeen.{IsHddlOf}
@@ -21,14 +20,14 @@ use Rattle.plan_proof.proofs.values.Headlines.{headline_of, headline_at_bound_of
 use Rattle.plan_proof.proofs.machine.Bounds.{loses_nothing}
 use Rattle.decode_answers.specs.DecodeLaws.{ValuesAreDecodedAlike}
 use Rattle.command_words.specs.Names.{Word}
-use Rattle.command_words.specs.Words.{TranslationRequest, BoundRequest, ValidationRequest, Request, to_translate, to_bound, to_decode, to_validate, Asks}
-use Rattle.htn_cli.specs.Answer.{Text, Output, Answer, refuses, gives, told_alone}
-use Rattle.htn_cli.specs.Answers.{Refuses, Gives, RefusesSize, RefusesFault, IsAnswerFor, past_slots, too_large, faulty, declined, given, IsAnswer}
-use Rattle.htn_cli.specs.Bounding.{RefusesBound, GivesBound}
+use Rattle.command_words.specs.Words.{TranslationRequest, BoundRequest, Request, to_translate, to_bound, to_decode, to_validate, Asks}
+use Rattle.htn_cli.specs.Answer.{Output, Answer, refuses, gives}
+use Rattle.htn_cli.specs.Answers.{Refuses, Gives, RefusesSize, RefusesFault, IsAnswerFor, past_slots, too_large, faulty, declined, given}
+use Rattle.htn_cli.specs.Bounding.{GivesBound}
 use Rattle.htn_cli.specs.Decoding.{GivesTree}
 use Rattle.htn_cli.specs.Ending.{Achieves, IsDone, IsRefused}
 use Rattle.htn_cli.specs.Inputs.{AreGot, AreWhole}
-use Rattle.htn_cli.specs.Left.{Stand, HoldTexts, Leaves}
+use Rattle.htn_cli.specs.Left.{Stand}
 use Rattle.htn_cli.specs.Lines.{slots_line, bound_line, valid_line}
 use Rattle.htn_cli.specs.Problem.{SpellProblem}
 use Rattle.htn_cli.specs.Refusal.{status_of, line_of}
@@ -36,8 +35,8 @@ use Rattle.htn_cli.specs.Requests.{inputs_of}
 use Rattle.htn_cli.specs.Sent.{TakesWhole, Told}
 use Rattle.htn_cli.specs.Slots.{RefusesSlots}
 use Rattle.htn_cli.specs.Texts.{Texts}
-use Rattle.htn_cli.specs.Told.{IsToldToRead, IsToldToHold, AreToldToRead}
-use Rattle.htn_cli.specs.Translation.{AreWritten, RefusesTranslation, GivesTranslation, translation_output}
+use Rattle.htn_cli.specs.Told.{AreToldToRead}
+use Rattle.htn_cli.specs.Translation.{AreWritten, GivesTranslation, translation_output}
 use Rattle.htn_cli.specs.Validation.{AreConfirmed, RefusesPlan, GivesPlan}
 use Rattle.htn_cli.specs.promise.Headline.{KeepsPlans, HasHeadline}
 use Rattle.htn_cli.specs.promise.Bound.{TellsBound, HasBound}
@@ -48,7 +47,6 @@ use Rattle.htn_cli.specs.declared.status.Status.TheVariants as status
 use Rattle.htn_cli.specs.declared.refusal.Failure.TheVariants as failure
 use Rattle.htn_cli.specs.declared.refusal.Finding.{Finding}
 use Rattle.htn_cli.specs.declared.refusal.Finding.TheVariants as finding
-use Rattle.htn_cli.specs.declared.refusal.Limit.TheVariants as limit
 use Rattle.htn_cli.specs.declared.refusal.Refusal.{Refusal}
 use Rattle.htn_cli.specs.declared.refusal.Refusal.TheVariants as refused
 use Rattle.htn_cli.proofs.Endings.{asked_left, asked_done}

@@ -5,7 +5,7 @@ use Rattle.htn_base.specs.Limits.{longest_input}
 use Rattle.outside_io.specs.Folder.{Folder, file_of}
 use Rattle.outside_io.specs.Files.{FilesState, GetGives, GetFails}
 use Rattle.command_words.specs.Names.{Word}
-use Rattle.htn_cli.specs.Inputs.{AreShort, EndTooLarge, AreGot, FailsToRead}
+use Rattle.htn_cli.specs.Inputs.{AreShort, EndTooLarge, AreGot}
 use Rattle.htn_cli.specs.Told.{Reads}
 use Rattle.htn_cli.specs.Stops.{GivesInput, StopsInput, GivesTexts, StopsReading}
 use Rattle.htn_cli.specs.declared.refusal.Failure.TheVariants as failure

@@ -1,5 +1,5 @@
 -- Words have one answer at most.
-use Rattle.std.proofs.Common.{ℕ, ◌≡◌, ◌<◌, ◌≤◌, ◌++◌, List, [], ◌∷◌, length, Option, Some, IfSome, codes, refl, sym, ap, ◌∙◌, subst, inl, inr, arith}
+use Rattle.std.proofs.Common.{ℕ, ◌≡◌, ◌≤◌, ◌++◌, List, [], ◌∷◌, length, Option, Some, IfSome, codes, refl, sym, ap, ◌∙◌, subst, inl, inr, arith}
 use Rattle.htn_base.specs.Limits.{longest_output, most_slots}
 use Rattle.outside_io.specs.Files.{FilesState}
 use Rattle.command_words.specs.Names.{Word}

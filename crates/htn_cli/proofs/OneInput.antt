@@ -6,7 +6,6 @@ use Rattle.outside_io.specs.Files.{FilesState}
 use Rattle.command_words.specs.Names.{Word}
 use Rattle.htn_cli.specs.Inputs.{AreGot, AreWhole, EndTooLarge}
 use Rattle.htn_cli.specs.OneAnswer.{AreTold}
-use Rattle.htn_cli.specs.Told.{Reads}
 
 one_read : (held : Option Folder) (folder : Folder) → held ≡ Some folder → (lenient : Bool) (name one other : List ℕ) → IfSome held (λ folder. file_of lenient folder name ≡ Some one)
     → IfSome held (λ folder. file_of lenient folder name ≡ Some other) → one ≡ other

@@ -1,13 +1,12 @@
 -- Texts that are put one after another.
-use Rattle.std.proofs.Common.{◌≡◌, ◌≢◌, List, [], ◌∷◌, ◌++◌, Option, Some, None, IfSome, refl, sym, ap, ◌∙◌, subst, inl, inr}
+use Rattle.std.proofs.Common.{◌≡◌, ◌≢◌, List, [], ◌∷◌, Option, Some, None, IfSome, refl, sym, ap, ◌∙◌, subst, inl, inr}
 use Rattle.std.specs.Option.{option_map}
 use Rattle.outside_io.specs.Folder.{Folder, with_bytes, told_of, KeepsOthers}
 use Rattle.outside_io.specs.Files.{FilesState, PutGives, PutFails}
 use Rattle.outside_io.specs.Sink.{SinkState}
 use Rattle.command_words.specs.Names.{Word}
 use Rattle.htn_cli.specs.Answer.{Text, Output}
-use Rattle.htn_cli.specs.Left.{Stand, FailsToPut, StandInPart}
-use Rattle.htn_cli.specs.Sent.{TakesWhole}
+use Rattle.htn_cli.specs.Left.{Stand, FailsToPut}
 use Rattle.htn_cli.specs.Stops.{StopsPut, StopsPuts, StopsPrint, StopsDelivery}
 use Rattle.htn_cli.specs.declared.refusal.Failure.TheVariants as failure
 use Rattle.htn_cli.specs.declared.refusal.Refusal.{Refusal}

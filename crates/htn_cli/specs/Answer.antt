@@ -1,5 +1,5 @@
 -- What a run answers: a refusal, or an output.
-use Rattle.std.specs.Prelude.{ℕ, ◌≡◌, ◌≤◌, List, [], ◌∷◌, length, map}
+use Rattle.std.specs.Prelude.{ℕ, List, [], map}
 use Rattle.command_words.specs.Names.{Word}
 use Rattle.htn_cli.specs.declared.refusal.Refusal.{Refusal}
 

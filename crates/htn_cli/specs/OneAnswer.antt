@@ -1,7 +1,7 @@
 -- That a run has one answer at most: two answers to the same words, where the files tell what they hold, end with one status, tell one line
 -- and have the same output. A refusal holds references to words, so answers are compared by what is told.
 -- Source: this project's.
-use Rattle.std.specs.Prelude.{ℕ, ◌≡◌, List, Option, Some, None}
+use Rattle.std.specs.Prelude.{◌≡◌, List, Option, Some, None}
 use Rattle.outside_io.specs.Folder.{Folder}
 use Rattle.outside_io.specs.Files.{FilesState}
 use Rattle.command_words.specs.Names.{Word}

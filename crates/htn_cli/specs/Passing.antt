@@ -1,13 +1,13 @@
 -- What passed between a run and its files: the gets and the puts that it made, in their order and with their bytes, and what is true of
 -- these bytes.
 -- Source: this project's.
-use Rattle.std.specs.Prelude.{ℕ, ◌+◌, ◌≡◌, ◌<◌, List, [], ◌∷◌, ◌++◌, Option, Some, length, map, option_map, slice_get}
+use Rattle.std.specs.Prelude.{ℕ, ◌+◌, ◌≡◌, List, [], ◌∷◌, ◌++◌, Option, Some, length, map, option_map, slice_get}
 use Rattle.htn_base.specs.Limits.{longest_input}
 use Rattle.outside_io.specs.Calls.{Passed, got, got_none, stored}
 use Rattle.outside_io.specs.Sink.{SinkState}
 use Rattle.command_words.specs.Names.{Word}
 use Rattle.command_words.specs.Words.{Request, to_translate, to_bound, to_decode, to_validate, Asks, AreOfAForm}
-use Rattle.htn_cli.specs.Answer.{Text, Output, Answer, refuses, gives}
+use Rattle.htn_cli.specs.Answer.{Text, Output, refuses, gives}
 use Rattle.htn_cli.specs.Answers.{IsAnswerFor}
 use Rattle.htn_cli.specs.Inputs.{AreShort}
 use Rattle.htn_cli.specs.Refusal.{status_of, line_of}

@@ -1,5 +1,5 @@
 -- How one step of a run is refused: what it leaves, and with which refusal it ends the run.
-use Rattle.std.specs.Prelude.{◌≡◌, ◌<◌, ◌≤◌, ◌^◌, ◌⊎◌, ℕ, List, [], ◌∷◌, Option, Some, None, IfSome, length}
+use Rattle.std.specs.Prelude.{◌≡◌, ◌<◌, ◌≤◌, ◌^◌, ◌⊎◌, ℕ, List, Option, Some, None, IfSome, length}
 use Rattle.htn_base.specs.Limits.{longest_input, longest_output, most_slots, most_steps}
 use Rattle.outside_io.specs.Files.{FilesState, GetFails, PutFails}
 use Rattle.outside_io.specs.Sink.{SinkState}

@@ -1,7 +1,7 @@
 use Rattle.std.proofs.Common.{[], ◌∷◌, refl}
 use Rattle.std.proofs.lemmas.Result.{err_from_is_err_and}
 use Rattle.htn_cli.proofs.InputsRead.{stops_next, nothing_read, one_read}
-use Rattle.htn_cli.proofs.CallsMade.{no_calls, calls_then, stops_next_get}
+use Rattle.htn_cli.proofs.CallsMade.{no_calls, stops_next_get}
 use Rattle.htn_cli.proofs.reading.read_two.Goals as goal
 
 pub returns-in_err-domain-clause-refused : goal.returns-in_err-domain-clause-refused
