@@ -8,6 +8,7 @@ use std::process::Abort;
 
 mod bounds;
 mod colours;
+mod decodings;
 mod failures;
 mod refused;
 mod rows;
@@ -31,13 +32,14 @@ enum Source {
     Powers(u32),
 }
 
-/// The files before a run: those that are translated, and those of a validation.
+/// The files before a run: those that are translated, those of a validation, and those that are decoded.
 #[derive(Clone, Copy)]
 enum Before {
     Nothing,
     Domain(Source),
     Both(Source, Source),
     Plan(Source, Source, Source),
+    Spelled(Source, Source, Source),
 }
 
 /// The call that fails, counted from 0.
@@ -73,6 +75,8 @@ const TRANSLATE: &[&str] = &["translate", "d.hddl", "p.hddl", "od.pddl", "op.pdd
 const BOUND: &[&str] = &["bound", "d.hddl", "p.hddl"];
 
 const VALIDATE: &[&str] = &["validate", "pd", "pp", "plan"];
+
+const DECODE: &[&str] = &["decode", "d.hddl", "p.hddl", "plan"];
 
 /// All that a run can reach, in memory. Standard output takes three bytes at a time, and standard error one.
 #[derive(Drop)]
@@ -111,6 +115,11 @@ impl Outside {
             Before::Plan(domain, problem, plan) => {
                 self.add("pd", domain)?;
                 self.add("pp", problem)?;
+                self.add("plan", plan)
+            }
+            Before::Spelled(domain, problem, plan) => {
+                self.add("d.hddl", domain)?;
+                self.add("p.hddl", problem)?;
                 self.add("plan", plan)
             }
         }

@@ -1,7 +1,10 @@
 //! Files and streams that fail.
+use super::decodings::PLAN;
 use super::texts::{DOMAIN, ONE_SLOT_DOMAIN, ONE_SLOT_PROBLEM, PROBLEM};
 use super::validations::{COSTS, NOTHING};
-use super::{BOUND, Before, Failing, Row, Source, TRANSLATE, UNWRITTEN, VALIDATE, replay_all};
+use super::{
+    BOUND, Before, DECODE, Failing, Row, Source, TRANSLATE, UNWRITTEN, VALIDATE, replay_all,
+};
 use htn_cli::Status;
 
 const TEXTS: Before = Before::Both(Source::Text(DOMAIN), Source::Text(PROBLEM));
@@ -10,6 +13,12 @@ const LISTED: Before = Before::Plan(
     Source::Text(COSTS),
     Source::Text(NOTHING),
     Source::Text("(a)"),
+);
+
+const SPELLED: Before = Before::Spelled(
+    Source::Text(DOMAIN),
+    Source::Text(PROBLEM),
+    Source::Text(PLAN),
 );
 
 const ONE_SLOT: &[&str] = &["--bound", "1"];
@@ -108,6 +117,39 @@ const UNREAD: &[Row] = &[
         err: "cannot read plan\n",
         held: UNWRITTEN,
     },
+    Row {
+        before: SPELLED,
+        failing: Failing::Get(0),
+        command: DECODE,
+        options: &[],
+        more: &[],
+        status: Status::ReadFault,
+        out: "",
+        err: "cannot read d.hddl\n",
+        held: UNWRITTEN,
+    },
+    Row {
+        before: SPELLED,
+        failing: Failing::Get(1),
+        command: DECODE,
+        options: &[],
+        more: &[],
+        status: Status::ReadFault,
+        out: "",
+        err: "cannot read p.hddl\n",
+        held: UNWRITTEN,
+    },
+    Row {
+        before: SPELLED,
+        failing: Failing::Get(2),
+        command: DECODE,
+        options: &[],
+        more: &[],
+        status: Status::ReadFault,
+        out: "",
+        err: "cannot read plan\n",
+        held: UNWRITTEN,
+    },
 ];
 
 #[test]
@@ -190,6 +232,28 @@ const CUT_OFF: &[Row] = &[
         more: &[],
         status: Status::WriteFault,
         out: "val",
+        err: "cannot write standard output\n",
+        held: UNWRITTEN,
+    },
+    Row {
+        before: SPELLED,
+        failing: Failing::Output(0),
+        command: DECODE,
+        options: &[],
+        more: &[],
+        status: Status::WriteFault,
+        out: "",
+        err: "cannot write standard output\n",
+        held: UNWRITTEN,
+    },
+    Row {
+        before: SPELLED,
+        failing: Failing::Output(2),
+        command: DECODE,
+        options: &[],
+        more: &[],
+        status: Status::WriteFault,
+        out: "==>\n0 ",
         err: "cannot write standard output\n",
         held: UNWRITTEN,
     },
