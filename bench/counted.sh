@@ -98,6 +98,37 @@ shortened "$transport/plan" >"$work/short"
     tail -n +14 "$work/short"
 } >"$work/plan"
 
+echo "(define (domain d) (:task t :parameters ()) (:method m :parameters () :task (t) :ordered-subtasks (and (a) (t))) (:method e :parameters () :task (t) :subtasks ()) (:action a :parameters ()))" >"$work/uses_domain"
+{
+    echo "(htn_start htn_s1)"
+    yes '(htn_m_m htn_s1 htn_s2)
+(a htn_s2)' | head -n 50000 || true
+    echo "(htn_m_e htn_s1)"
+} >"$work/uses"
+{
+    echo "(define (problem made) (:domain transport)"
+    echo " (:objects l0 l1 l2 - location v1 v2 - vehicle"
+    for ((k = 1; k <= 200; k++)); do echo "  p$k"; done
+    echo "  - package)"
+    echo " (:htn :parameters () :subtasks (and"
+    for ((k = 1; k <= 200; k++)); do echo "  (deliver p$k l1)"; done
+    echo "  ))"
+    echo " (:init (road l0 l1) (road l1 l0) (road l1 l2) (road l2 l1) (at v1 l0) (at v2 l2)"
+    for ((k = 1; k <= 200; k++)); do echo "  (at p$k l0)"; done
+    echo " ))"
+} >"$work/made"
+{
+    echo "(htn_start htn_s1 $(seq -f 'htn_s%g' -s ' ' 2 200))"
+    for ((k = 1; k <= 200; k++)); do
+        h=htn_s$((k % 200 + 1))
+        echo "(htn_m_m-deliver $h htn_s201 htn_s202 htn_s203 v1 p$k l0 l1)"
+        if ((k > 1)); then echo "(htn_m_m-via htn_s201 htn_s204 v1 l1 l0 l0) (drive htn_s204 v1 l1 l0)"; fi
+        echo "(htn_m_m-there htn_s201 v1 l0) (htn_c_m-there htn_s201 v1 l0) (pick-up htn_s202 v1 l0 p$k)"
+        echo "(htn_m_m-via htn_s203 htn_s201 v1 l0 l1 l1) (drive htn_s201 v1 l0 l1)"
+        echo "(htn_m_m-there htn_s203 v1 l1) (htn_c_m-there htn_s203 v1 l1) (drop $h v1 l1 p$k)"
+    done
+} >"$work/made_plan"
+
 counted "400 tasks at one slot" translate "$work/tasks" "$work/first_task" "$work/od" "$work/op" --bound 1
 counted "smallest at 65,536 slots, adl" translate "$top/examples/first/domain.hddl" "$top/examples/first/problem.hddl" "$work/od" "$work/op" --bound 65536
 counted "54 actions at 65,536 slots, flat" translate "$work/actions" "$work/task" "$work/od" "$work/op" --bound 65536 --style flat
@@ -105,3 +136,5 @@ counted "2,000 packages" translate "$transport/domain.hddl" "$work/packages" "$w
 counted "500 methods of 40 subtasks" translate "$work/methods" "$work/last_task" "$work/od" "$work/op" --bound 4096
 counted "140,000 facts" translate "$transport/domain.hddl" "$work/facts" "$work/od" "$work/op"
 counted "validate of 50,000 steps" validate "$work/domain" "$work/problem" "$work/plan"
+counted "decode of 25,000 uses, 50,002 steps" decode "$work/uses_domain" "$work/task" "$work/uses"
+counted "decode of 200 packages, 2,199 steps" decode "$transport/domain.hddl" "$work/made" "$work/made_plan" --bound 204

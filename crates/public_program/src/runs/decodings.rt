@@ -368,3 +368,48 @@ fn smallest_problem(rt: HostRuntime) {
 fn random_problems(rt: HostRuntime) {
     all_told(&rt, rt.alloc(), SPELLED);
 }
+
+const USES: &str =
+    "(define (domain d) (:task t :parameters ()) (:method m :parameters () :task (t) :ordered-subtasks (and (a) (t))) (:method e :parameters () :task (t) :subtasks ()) (:action a :parameters ()))";
+
+/// A method that calls its task last is used 100,000 times, and the task is then left pending; and there are too many steps.
+const LONG: &[(&[(&str, u32)], Status, &str)] = &[
+    (
+        &[
+            ("(htn_start htn_s1)", 1),
+            ("(htn_m_m htn_s1 htn_s2)(a htn_s2)", 100_000),
+        ],
+        Status::Finding,
+        "not a plan: step 200002 Unfinished\n",
+    ),
+    (
+        &[("(a)", 1_000_001)],
+        Status::Limit,
+        "limit steps 1000001\n",
+    ),
+];
+
+#[test]
+fn long_plans(rt: HostRuntime) {
+    for (plan, status, err) in LONG {
+        replay(
+            &rt,
+            rt.alloc(),
+            &Row {
+                before: Before::Spelled(
+                    Source::Text(USES),
+                    Source::Text(PROBLEM),
+                    Source::Times(plan),
+                ),
+                failing: Failing::Nothing,
+                command: DECODE,
+                options: &[],
+                more: &[],
+                status: *status,
+                out: "",
+                err,
+                held: UNWRITTEN,
+            },
+        );
+    }
+}
