@@ -2,9 +2,11 @@
 # Counts the instructions of the whole program, which no load of the machine disturbs, from files to files: 400 tasks, methods and
 # actions at one slot; the smallest problem at 65,536 slots in style adl; 54 actions at 65,536 slots in style flat; Transport with
 # 2,000 packages at 4,096 slots; 500 methods of 40 subtasks; 140,000 facts; and `validate` of 50,000 steps (bench/validate.sh has
-# the same with a million). Wants ./htn, as examples/transport/run leaves it, and valgrind. A line each: the instructions.
+# the same with a million); `decode` of 25,000 uses of a tail-recursive method, and of the deliveries of 200 packages. Wants ./htn,
+# as examples/transport/run leaves it, and valgrind. A line each: the instructions.
 #
-# Counted, in the order of the cases, millions: 19.6, 81.4, 740.6, 405.3, 330.7, 279.0, 210.1. Before words of one hash were found in
+# Counted, in the order of the cases, millions: 19.7, 97.8, 756.6, 408.0, 303.0, 285.5, 215.2, and `decode` 317.5, 24.6. Before words of
+# one hash were found in buckets of four: 19.6, 81.4, 740.6, 405.3, 330.7, 279.0, 210.1. Before words of one hash were found in
 # order and an answer was an output: 19.4, 81.2, 740.4, 405.4, 326.8, 277.9, 211.3. Before small functions of one call stood in
 # their callers, for the third time: 19.3, 80.9, 738.4, 405.3, 326.3, 276.0, 213.9; for the second: 19.1, 81.6, 747.9, 413.2, 331.7, 281.2,
 # 215.5; for the first: 19.1, 81.7, 748.0, 412.9, 329.7, 283.6, 215.5.
