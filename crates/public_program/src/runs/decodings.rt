@@ -36,7 +36,7 @@ const SMALLEST: &[Spelled] = &[
     Spelled {
         domain: DOMAIN,
         problem: PROBLEM,
-        plan: "0: (HTN_START HTN_S9)\n1: (HTN_M_M HTN_S9) ; m\n2: (A HTN_S9)",
+        plan: "0: (HTN_START HTN_S1)\n1: (HTN_M_M HTN_S1) ; m\n2: (A HTN_S1)",
         options: &["--bound", "65536", "--checks", "atonce"],
         status: Status::Done,
         out: TREE,
