@@ -1,4 +1,5 @@
 ghost use Rattle.std.specs.Prelude.{◌≡◌, ◌++◌, IfOk, IfErr, OnOk};
+ghost use Rattle.gd_reader.specs.Terms.{Keeps};
 ghost use Rattle.name_binding.specs.Spots.{noted};
 ghost use Rattle.name_binding.specs.Unions.{AreWith};
 ghost use Rattle.hddl_bind.specs.DeclaredNames.{second_objects};
@@ -27,6 +28,7 @@ pub fn bind_problem(
 ) -> Result<Hddl, BindError>
     ensures bound { IfOk result (spec.IsProblemBound d p names.old) }
     ensures refused { IfErr result (spec.IsProblemRefused d p) }
+    ensures keeps { Keeps names.old names.new }
     ensures table { OnOk result (names.new ≡ spec.with_start names.old) }
 {
     let mut d = d;
@@ -45,6 +47,7 @@ pub fn bind_problem(
 
 /// The words of both texts with that of the top method, and what a problem says, with its faults noted. The domain gets its
 /// objects, its unions and its names.
+#[tactic(auto, using(gd_reader::proofs::Keeping::keeps_same, gd_reader::proofs::Keeping::keeps_word))]
 fn noted_problem(
     alloc: Global,
     names: &mut NameTable,
@@ -53,6 +56,7 @@ fn noted_problem(
     faults: &mut Faults,
 ) -> Result<(WordList, ProblemParts), Memory>
     ensures words { IfOk result (λ noted. noted.0 ≡ spec.with_start names.old) }
+    ensures keeps { Keeps names.old names.new }
     ensures table { OnOk result (names.new ≡ spec.with_start names.old) }
     ensures noted { IfOk result (λ noted. spec.IsNotedWithStart d.old p.now noted.0
         faults.old.least faults.new.least d.new noted.1) }

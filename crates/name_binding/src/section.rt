@@ -1,4 +1,5 @@
-ghost use Rattle.std.specs.Prelude.{◌≡◌, ◌≤◌, MatchOption, IfOk, OnOk};
+ghost use Rattle.std.specs.Prelude.{◌≡◌, ◌<◌, MatchOption, IfOk, OnOk};
+ghost use Rattle.htn_base.specs.Limits.{most_subtasks};
 ghost use Rattle.name_binding.specs.Spots.{noted};
 ghost use Rattle.name_binding.specs.Cycle.{IsSection, IsSectionFault};
 ghost use Rattle.name_binding.specs.Mentions.{AreInTextOrder, AreTypesOf, types_in_order};
@@ -22,7 +23,7 @@ pub fn section_of(
     listed: &RawParams,
     faults: &mut Faults,
 ) -> Result<Places, Memory>
-    requires few { most ≤ 4095 }
+    requires few { most < most_subtasks }
     requires section { IsSection listed.now }
     ensures types { IfOk result (AreTypesOf object.number listed.now) }
     ensures faults { OnOk result (NotesLeast (IsSectionFault most object.number listed.now)

@@ -8,7 +8,8 @@ use Rattle.hddl_bind.specs.WholeProblems.{with_start}
 use Rattle.text_values.specs.form_spellings.binding_laws.SoundValues.{ReadValuesAreSound}
 use Rattle.text_values.specs.form_spellings.binding_laws.WholeFaults.{AreInOrder}
 use Rattle.text_values.proofs.form_spellings.binding_laws.seen.Bound.{is_of_texts}
-use Rattle.text_values.specs.Values.{AreReadAs, IsValueOf}
+use Rattle.text_values.specs.ReadAs.{AreReadAs}
+use Rattle.text_values.specs.Values.{IsValueOf}
 
 module _ (domain problem : List ℕ) (h : Hddl) (is : AreReadAs domain problem language.Hddl h) where
   in_order : AreInOrder is.bound.before (with_start is.bound.left) is.bound.d is.bound.p

@@ -4,7 +4,7 @@ use Rattle.hddl_reader.specs.declared.sections.Language.TheVariants as language
 use Rattle.plan_model.specs.declared.values.Hddl.{Hddl}
 use Rattle.plan_model.specs.Values.{without_tasks}
 use Rattle.text_values.specs.form_spellings.binding_laws.PddlValues.{ReadPddlIsItsValue}
-use Rattle.text_values.specs.Values.{AreReadAs}
+use Rattle.text_values.specs.ReadAs.{AreReadAs}
 use Rattle.text_values.specs.PddlValues.{IsValueOf}
 
 pub value_of : (domain problem : List ℕ) (h : Hddl) → AreReadAs domain problem language.Pddl h → ReadPddlIsItsValue → IsValueOf domain problem (without_tasks h)

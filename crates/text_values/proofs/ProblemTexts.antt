@@ -26,7 +26,7 @@ use Rattle.text_values.specs.form_spellings.binding_laws.WholeFaults.{AreInOrder
 use Rattle.text_values.proofs.form_spellings.binding_laws.WholeFaults.{domain_none, problem_least, problem_none}
 use Rattle.text_values.specs.form_spellings.binding_laws.SoundValues.{IsBoundOf}
 use Rattle.text_values.specs.Reading.{ReadsProblem, RefusesOver, IsBoundText, read_error}
-use Rattle.text_values.specs.Values.{AreReadAs}
+use Rattle.text_values.specs.ReadAs.{AreReadAs}
 use Rattle.text_values.specs.TextFaults.{IsProblemOf, IsGoodDomain, IsGoodProblem, problem_names}
 
 -- a word more keeps words apart

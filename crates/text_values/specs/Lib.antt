@@ -1,6 +1,7 @@
 pub mod form_spellings
 pub mod TextFaults
 pub mod Values
+pub mod ReadAs
 pub mod Reading
 pub mod Exactly
 pub mod FaultWords

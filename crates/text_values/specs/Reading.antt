@@ -20,7 +20,7 @@ use Rattle.plan_model.specs.declared.values.Hddl.{Hddl}
 use Rattle.text_forms.specs.declared.sexpr_text.read_error.ReadError.{ReadError}
 use Rattle.text_forms.specs.declared.sexpr_text.read_error.ReadError.TheVariants as errors
 use Rattle.text_values.specs.TextFaults.{IsDomainOf, IsLeastOfDomain, IsLeastOfProblem}
-use Rattle.text_values.specs.Values.{AreReadAs}
+use Rattle.text_values.specs.ReadAs.{AreReadAs}
 
 -- the text has no fault of tokens, and was read as this domain
 pub record ReadsDomain (l : Language) (text : List ℕ) (before behind : Names) (d : RawDomain) : Type 0 where

@@ -1,4 +1,4 @@
--- What two texts come to: what is read and bound of them, in either language, and the value of two HDDL texts.
+-- What two texts come to: the value of two HDDL texts, or the refusal of two texts of either language.
 -- Source: this project's.
 use Rattle.std.specs.Prelude.{ℕ, List}
 use Rattle.hddl_reader.specs.declared.sections.Language.{Language}
@@ -9,15 +9,9 @@ use Rattle.plan_texts.specs.SoundProblem.{IsSoundProblem}
 use Rattle.plan_model.specs.plan_meaning.Laws.{AreOrdered}
 use Rattle.text_forms.specs.declared.sexpr_text.read_error.ReadError.{ReadError}
 use Rattle.text_forms.specs.declared.sexpr_text.read_error.ReadError.TheVariants as errors
-use Rattle.text_values.specs.form_spellings.binding_laws.SoundValues.{IsBoundOf}
 use Rattle.text_values.specs.TextFaults.{IsLeastFault, HaveNoFault}
 
 module _ (domain problem : List ℕ) where
-  -- The texts have no fault, and this is what is read of them and bound: of PDDL without tasks, methods and a network.
-  pub record AreReadAs (l : Language) (h : Hddl) : Type 0 where
-    pub faultless : HaveNoFault l domain problem
-    pub bound : IsBoundOf l domain problem h
-
   -- The texts have no fault and spell the value, which is sound and whose networks have no cycle.
   pub record IsValueOf (h : Hddl) : Type 0 where
     pub faultless : HaveNoFault language.Hddl domain problem

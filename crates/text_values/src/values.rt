@@ -1,7 +1,8 @@
 ghost use Rattle.std.specs.Prelude.{◌≤◌, length, IfOk, IfErr};
 ghost use Rattle.htn_base.specs.Limits.{longest_input};
 ghost use Rattle.hddl_reader.specs.declared.sections.Language.TheVariants as languages;
-ghost use Rattle.text_values.specs.Values.{AreReadAs, IsValueOf, IsRefusal};
+ghost use Rattle.text_values.specs.ReadAs.{AreReadAs};
+ghost use Rattle.text_values.specs.Values.{IsValueOf, IsRefusal};
 
 use crate::domains::bound_domain;
 use crate::form_spellings::binding_laws::read_values_are_sound;

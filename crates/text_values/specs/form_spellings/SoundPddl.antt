@@ -1,7 +1,8 @@
 -- What is asked of a PDDL value that was read.
 -- Source: this project's.
-use Rattle.std.specs.Prelude.{ℕ, ◌≡◌, ◌<◌, ◌≤◌, ◌^◌, [], map, length, codes}
+use Rattle.std.specs.Prelude.{ℕ, ◌≡◌, ◌<◌, ◌≤◌, ◌+◌, ◌^◌, [], map, length, codes}
 use Rattle.htn_base.specs.Different.{AreDifferent}
+use Rattle.htn_base.specs.Limits.{most_pddl_types}
 use Rattle.text_forms.specs.Words.{word_at}
 use Rattle.plan_texts.specs.Declared.{named, variable}
 use Rattle.plan_texts.specs.Printable.{IsPlain, IsSoundAtom, IsSoundParam, AreSoundParams, IsSound, IsSoundEffect, HasWords}
@@ -39,7 +40,7 @@ pub record IsSoundPddl (c : Pddl) : Type 0 where
 
 pub record IsWithinLimits (c : Pddl) : Type 0 where
   pub names : length c.names ≤ 2 ^ 26
-  pub types : length c.types.names ≤ 1003
+  pub types : length c.types.names ≤ most_pddl_types + 1
   pub unions : IsShort c.types.unions
   pub objects : IsShort c.objects
   pub predicates : IsShort c.predicates

@@ -3,7 +3,8 @@ use Rattle.std.specs.Prelude.{IfOk}
 use Rattle.hddl_reader.specs.declared.sections.Language.TheVariants.{Hddl as language}
 use Rattle.plan_model.specs.declared.values.Hddl.{Hddl}
 use Rattle.text_forms.specs.declared.sexpr_text.read_error.ReadError.{ReadError}
-use Rattle.text_values.specs.Values.{AreReadAs, IsValueOf}
+use Rattle.text_values.specs.ReadAs.{AreReadAs}
+use Rattle.text_values.specs.Values.{IsValueOf}
 use Rattle.text_values.proofs.HddlTexts.{value_of}
 use Rattle.text_values.proofs.values.hddl_of.Goals as goal
 

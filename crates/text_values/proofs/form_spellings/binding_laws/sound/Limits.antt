@@ -5,6 +5,7 @@ use Rattle.std.specs.List.{list_any}
 use Rattle.std.specs.Str.{bytes_eq}
 use Rattle.std.proofs.lemmas.List.{length-map}
 use Rattle.text_forms.specs.Words.{Word}
+use Rattle.htn_base.specs.Limits.{most_pddl_types}
 use Rattle.htn_base.specs.Table.{with_word}
 use Rattle.gd_reader.specs.Terms.{Names}
 use Rattle.gd_reader.specs.declared.term.RawAtom.{RawAtom}
@@ -111,7 +112,7 @@ module _ (text : List ℕ) (names : Names) (few : length text ≤ 2 ^ 24) where
   method_params known callables (m ∷ ms) at o = (bound_short known.types m.head.params at.0.0.1 o.0.head.params.variables.in_order, method_params known callables ms at.1 o.1)
 
 -- in either language
-most_few : (l : Language) → most_types l ≤ 1002
+most_few : (l : Language) → most_types l ≤ most_pddl_types
 most_few language.Hddl = omega arith
 most_few language.Pddl = omega arith
 
@@ -138,7 +139,7 @@ module _ (before left : Names) (d : RawDomain) (p : RawProblem) (is : AreInOrder
   abbrev callables : Declared
   callables = whole.callables before left d p is object of_object l x ex start of_start y ey
 
-  types_few : length value.types.names ≤ 1003
+  types_few : length value.types.names ≤ most_pddl_types + 1
   types_few =
       let few = few_types (most_types l) object d.types x.are_kinds.types.0 x.are_kinds.types.1 (subst HaveOneWordAPlace (same_mentioned d.types) is.domain.types_at_places)
       (λ at f. whole.no_domain before left d p is object of_object l x ex start of_start y ey at 22 (HasDomainFault.too_many_types ((has_too_many_types names object d l at (whole.in_types before left d p is object of_object l x ex start of_start y ey)).0 f))) in
