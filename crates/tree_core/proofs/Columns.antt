@@ -13,7 +13,8 @@ use Rattle.tree_core.specs.Growing.{IsPlaced, IsNodeAt, AreNodes, AreBelow, AreP
 use Rattle.tree_core.specs.Runs.{AreAt}
 use Rattle.tree_core.proofs.Gets.{get_some, get_within, get_cases, get_left, get-map, mapped, one_place, place_of}
 use Rattle.tree_core.proofs.GrowthLaws.{growth_at}
-use Rattle.tree_core.proofs.Siblings.{as_many, row_is, one_node_place, place_of_node}
+use Rattle.tree_core.proofs.Joined.{under_parent}
+use Rattle.tree_core.proofs.Siblings.{as_many, row_is, one_node_place, place_of_node, child_within}
 use Rattle.tree_core.proofs.TableRows.{tables_tell_trees}
 use Rattle.tree_core.proofs.Setting.{get-set_same, get-set_other, get-push}
 
@@ -52,6 +53,14 @@ module _ (gs : List (Growth labels)) (tree : Tree labels) (order : List Address)
 
   pub many_rows_are : length (table labels tree) ≡ length gs
   many_rows_are = as_many labels tree ∙ many_nodes_are
+
+  -- and fewer children
+  pub number_within : (k x : ℕ) (g : Growth labels) → IsAt labels gs k g → g.parent ≡ Some x → g.child < length gs
+  number_within k x g at is_parent =
+      let (p, q, e, f, z, l) = under_parent labels gs tree order s k x g at is_parent in
+      let h = child_within labels tree g.child q (subst (IsAddress labels tree) z (address_of k p e)) in
+      let m = many_nodes_are in
+      omega arith
 
   pub growth_of_node : (p : Address) → IsAddress labels tree p → (x : ℕ) × (slice_get order x ≡ Some p)
   growth_of_node p a = place_of order p (s.all p a)

@@ -1,5 +1,5 @@
 -- Where children stand in preorder: the first right behind its parent, each further one where the subtree of the one before ends.
-use Rattle.std.proofs.Common.{ℕ, zero, suc, ◌≡◌, ◌+◌, ◌≤◌, inl, inr, [], ◌∷◌, length, Option, Some, None, option_map, slice_get, refl, ap, sym, subst, ◌∙◌, arith}
+use Rattle.std.proofs.Common.{ℕ, zero, suc, ◌≡◌, ◌+◌, ◌<◌, ◌≤◌, inl, inr, [], ◌∷◌, length, Option, Some, None, option_map, slice_get, refl, ap, sym, subst, ◌∙◌, arith}
 use Rattle.std.proofs.lemmas.Bool.{cases_lt}
 use Rattle.std.proofs.lemmas.Option.{slice_get_past}
 use Rattle.plan_model.specs.task_networks.Net.{Net}
@@ -35,6 +35,13 @@ module _ (N : Net) where
   before_within none i t e = absurd cc
   before_within (more u ts) zero t e = let f : u ≡ t = cc in let g = ap (size N) f in omega arith
   before_within (more u ts) (suc i) t e = let h = before_within ts i t e in omega arith
+
+  -- each has one at least
+  before_many : (ts : Trees N) (i : ℕ) (t : Tree N) → child_at N ts i ≡ Some t → i ≤ sizes_before ts i
+  unfolding sizes_before
+  before_many none i t e = absurd cc
+  before_many (more u ts) zero t e = omega arith
+  before_many (more u ts) (suc i) t e = let h = before_many ts i t e in let s = some_node N u in omega arith
 
   child_before : (ts : Trees N) (i : ℕ) (t : Tree N) → child_at N ts (suc i) ≡ Some t → (u : Tree N) × (child_at N ts i ≡ Some u)
   child_before none i t e = absurd cc
@@ -100,6 +107,16 @@ module _ (N : Net) where
           let s = some_node N t in
           let nx = rowc.next x r q (way.1.2 ∙ ap Some same) g at_x (omega arith) in
           subst (λ k. slice_get (preorder N tree) k ≡ Some (suc i ∷ q)) (let y : rc.end ≡ suc x + sizes_before ts (suc i) = omega arith in y) (nx ∙ ap (λ k. Some (suc k ∷ q)) way.0)
+
+    -- a child number is less than the number of nodes
+    pub child_within : (i : ℕ) (q : Address) → IsAddress N tree (i ∷ q) → i < length (preorder N tree)
+    child_within i q a =
+        let (t, f) = tree_at (i ∷ q) a in
+        let (m, ts, is, c) = parent N tree i q t f in
+        let (x, at_x) = place_of_node q (label N (split m ts), ap (option_map (label N)) is) in
+        let l = get_within (preorder N tree) (suc x + sizes_before ts i) (i ∷ q) (child_place q x at_x m ts is i t c) in
+        let b = before_many ts i t c in
+        omega arith
 
     -- the first child
     pub first_child : (k : ℕ) (q : Address) → slice_get (preorder N tree) k ≡ Some q → IsAddress N tree (0 ∷ q) → slice_get (preorder N tree) (suc k) ≡ Some (0 ∷ q)

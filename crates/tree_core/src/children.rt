@@ -10,7 +10,7 @@ use std::collections::BTreeMap;
 
 // The first growth with each parent and child number: its place by these two.
 pub(crate) struct Children {
-    places: BTreeMap<(usize, usize), u32>,
+    places: BTreeMap<(u32, u32), u32>,
 }
 
 impl Drop for Children {
@@ -30,7 +30,7 @@ impl Children {
         };
         for (place, growth) in steps.iter().enumerate() {
             if let Some(parent) = growth.parent {
-                let key = (parent as usize, growth.child as usize);
+                let key = (parent, growth.child);
                 if !children.places.contains_key(&key) {
                     children.places.insert(key, place as u32)?;
                 }
@@ -40,7 +40,7 @@ impl Children {
     }
 
     // The first growth with this parent and child number.
-    pub(crate) fn at(&self, parent: usize, child: usize) -> Option<u32>
+    pub(crate) fn at(&self, parent: u32, child: u32) -> Option<u32>
         ensures found { result ≡ found self.now parent child }
     {
         self.places.get(&(parent, child)).copied()

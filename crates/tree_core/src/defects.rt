@@ -36,11 +36,11 @@ fn defect_at(steps: &[Growth], children: &Children, place: usize) -> Option<u32>
     if up >= place {
         return Some(place as u32);
     }
-    let child = growth.child as usize;
-    if child > 0 && children.at(up, child - 1).is_none() {
+    let child = growth.child;
+    if child > 0 && children.at(parent, child - 1).is_none() {
         return Some(parent);
     }
-    if is_first(children, up, child, place) && is_abstract(&steps[up].label) {
+    if is_first(children, parent, child, place) && is_abstract(&steps[up].label) {
         None
     } else {
         Some(place as u32)
@@ -48,7 +48,7 @@ fn defect_at(steps: &[Growth], children: &Children, place: usize) -> Option<u32>
 }
 
 // Whether the growth at the place is the first with this parent and child number.
-fn is_first(children: &Children, parent: usize, child: usize, place: usize) -> bool
+fn is_first(children: &Children, parent: u32, child: u32, place: usize) -> bool
     ensures { IsTrue result ↔ (found children.now parent child ≡ Some place) }
 {
     match children.at(parent, child) {

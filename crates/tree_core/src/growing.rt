@@ -48,22 +48,23 @@ fn laid_out(alloc: Global, steps: &[Growth]) -> Result<(List<Node>, List<u32>), 
     let children = Children::of(alloc, steps)?;
     match first_defect(steps, &children) {
         Some(growth) => Err(GrowError::Unjoined { growth }),
-        None => Ok(joined_laid_out(alloc, steps, &children)?),
+        None => Ok(joined_laid_out(alloc, steps, children)?),
     }
 }
 
-// The same of growths that are joined.
+// The same of growths that are joined. The children take the most bytes, so they are let go before the other tables are made.
 fn joined_laid_out(
     alloc: Global,
     steps: &[Growth],
-    children: &Children,
+    children: Children,
 ) -> Result<(List<Node>, List<u32>), Memory>
     requires few { length steps.now ≤ most_steps }
     requires joined { AreJoined labels (growths_of steps.now) }
-    requires children { AreChildren (growths_of steps.now) children.now }
+    requires children { AreChildren (growths_of steps.now) children }
     ensures { IfOk result (λ laid. AreLaidOut steps.now laid.0 laid.1) }
 {
-    let nodes = in_preorder(alloc, steps, children)?;
+    let nodes = in_preorder(alloc, steps, &children)?;
+    drop(children);
     let places = places_of(alloc, nodes.as_slice())?;
     let parents = parents_of(alloc, steps, nodes.as_slice(), places.as_slice())?;
     let ends = ends_of(alloc, parents.as_slice())?;

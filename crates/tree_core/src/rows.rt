@@ -59,16 +59,9 @@ pub(crate) fn nodes_of(
 {
     let mut kept = List::with_room(alloc, nodes.len())?;
     for (place, node) in nodes.iter().enumerate() {
-        let growth = &steps[*node as usize];
-        let parent = parents[place];
-        let number = match growth.parent {
-            Some(_) => growth.child,
-            None => 0,
-        };
         kept.push(Node {
             growth: *node,
-            parent,
-            number,
+            parent: parents[place].unwrap_or(0),
             end: ends[place],
         })?;
     }

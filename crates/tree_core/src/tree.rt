@@ -9,12 +9,12 @@ use htn_base::{List, Memory};
 use std::alloc::Global;
 use std::marker::Model;
 
-// A node: the place of its growth, the address of its parent, its child number, and the address after its subtree.
+// A node: the place of its growth, the address of its parent, and the address after its subtree. Whether it has a parent, and
+// its child number, its growth says.
 #[derive(Clone, Copy)]
 pub(crate) struct Node {
     pub(crate) growth: u32,
-    pub(crate) parent: Option<u32>,
-    pub(crate) number: u32,
+    pub(crate) parent: u32,
     pub(crate) end: u32,
 }
 
@@ -70,7 +70,9 @@ impl Tree {
     pub fn parent(&self, address: u32) -> Option<u32>
         ensures parent { result ≡ parent_in self.now address }
     {
-        self.nodes.get(address as usize)?.parent
+        let node = self.nodes.get(address as usize)?;
+        self.growths.get(node.growth as usize)?.parent?;
+        Some(node.parent)
     }
 
     /// The number of the node among its parent's children, from 0, or `None` where the address is 0 or at least the size.
@@ -78,8 +80,9 @@ impl Tree {
         ensures number { result ≡ number_in self.now address }
     {
         let node = self.nodes.get(address as usize)?;
-        node.parent?;
-        Some(node.number)
+        let growth = self.growths.get(node.growth as usize)?;
+        growth.parent?;
+        Some(growth.child)
     }
 
     /// The address after the node's subtree, or `None` where the address is at least the size.

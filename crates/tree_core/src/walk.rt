@@ -28,14 +28,15 @@ pub(crate) fn in_preorder(
     for _step in 0..steps.len() {
         if let Some(place) = next {
             nodes.push(place)?;
-            next = following(steps, children, place as usize);
+            next = following(steps, children, place);
         }
     }
     Ok(nodes)
 }
 
 // The growth of the node after this one's in preorder.
-fn following(steps: &[Growth], children: &Children, place: usize) -> Option<u32>
+fn following(steps: &[Growth], children: &Children, place: u32) -> Option<u32>
+    requires few { length steps.now ≤ most_steps }
     requires joined { AreJoined labels (growths_of steps.now) }
     requires children { AreChildren (growths_of steps.now) children.now }
     requires place { place < length steps.now }
@@ -50,7 +51,8 @@ fn following(steps: &[Growth], children: &Children, place: usize) -> Option<u32>
 }
 
 // The growth of the node that comes first in preorder after the subtree of this one's.
-fn after_subtree(steps: &[Growth], children: &Children, place: usize) -> Option<u32>
+fn after_subtree(steps: &[Growth], children: &Children, place: u32) -> Option<u32>
+    requires few { length steps.now ≤ most_steps }
     requires joined { AreJoined labels (growths_of steps.now) }
     requires children { AreChildren (growths_of steps.now) children.now }
     requires place { place < length steps.now }
@@ -59,12 +61,12 @@ fn after_subtree(steps: &[Growth], children: &Children, place: usize) -> Option<
         (λ tree order. (e : ℕ) → EndsAt tree order place e → IsNodeAt e result tree order) }
 {
     let mut node = place;
-    while let Some(parent) = steps[node].parent {
-        let next = children.at(parent as usize, steps[node].child as usize + 1);
+    while let Some(parent) = steps[node as usize].parent {
+        let next = children.at(parent, steps[node as usize].child + 1);
         if next.is_some() {
             return next;
         }
-        node = parent as usize;
+        node = parent;
     }
     None
 }

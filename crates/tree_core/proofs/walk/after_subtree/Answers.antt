@@ -1,12 +1,28 @@
-use Rattle.std.proofs.Common.{◌≡◌, ◌+◌, Some, None, sym, subst, ◌∙◌, arith}
+use Rattle.std.proofs.Common.{◌≡◌, ◌+◌, ◌<◌, length, Some, None, ap, sym, subst, ◌∙◌, arith}
+use Rattle.std.proofs.lemmas.List.{length-map}
 use Rattle.std.proofs.lemmas.Option.{get_or_from_slice_get}
 use Rattle.tree_core.specs.declared.growth.Growth as Grown
-use Rattle.tree_core.specs.Labels.{growth_of, growths_of}
+use Rattle.tree_core.specs.Labels.{labels, growth_of, growths_of}
 use Rattle.tree_core.specs.Growing.{found, IsNodeAt}
 use Rattle.tree_core.proofs.Gets.{get-map, get_some}
+use Rattle.tree_core.proofs.Built.{built}
+use Rattle.tree_core.proofs.Columns.{number_within}
 use Rattle.tree_core.proofs.DefectLaws.{none_of, some_of, parent_before}
 use Rattle.tree_core.proofs.Walking.{root_ends_at, sibling_follows, parent_ends}
 use Rattle.tree_core.proofs.walk.after_subtree.Goals as goal
+
+pub overflow_add-steps : goal.overflow_add-steps
+overflow_add-steps c =
+    let steps = c.args.steps.now in
+    let n = c.loop-node.node in
+    let (g, h) = get_some steps n c.loop-node.invariant.0 in
+    let under = subst (λ (z : Grown.Growth). z.parent ≡ Some c.in-Some.parent) (get_or_from_slice_get steps n g _ h) c.in-Some.is in
+    let (tree, order, s) = built labels (growths_of steps) c.requires.joined in
+    let within : g.child < length (growths_of steps) = number_within (growths_of steps) tree order s n c.in-Some.parent (growth_of g) (get-map growth_of steps n g h) under in
+    let child = ap (λ (z : Grown.Growth). z.child) (get_or_from_slice_get steps n g c.index-steps-node.result h) in
+    let many = length-map steps growth_of in
+    let few = c.requires.few in
+    omega arith
 
 pub returns-then-is_some-clause-next : goal.returns-then-is_some-clause-next
 returns-then-is_some-clause-next c tree order s e ends =
