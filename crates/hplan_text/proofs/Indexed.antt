@@ -1,103 +1,114 @@
--- The places of nodes, one after another.
-use Rattle.std.proofs.Common.{ℕ, zero, suc, ◌≡◌, ◌∙◌, ◌+◌, ◌<◌, ◌≤◌, ◌⊎◌, inl, inr, ◌==◌, cond, Some, None, List, [], ◌∷◌, ◌++◌, take, length, get_or, slice_get, refl, sym, ap, subst, arith}
-use Rattle.std.proofs.lemmas.List.{take_more, take_all}
+-- The places of nodes, at the places of their ids.
+use Rattle.std.proofs.Common.{ℕ, zero, suc, ◌≡◌, ◌∙◌, ◌+◌, ◌<◌, ◌≤◌, ◌⊎◌, inl, inr, ◌==◌, Bool, true, false, cond, Option, Some, None, List, [], ◌∷◌, ◌++◌, take, length, get_or, slice_get, slice_index, slice_set, replicate, refl, sym, ap, subst, arith}
+use Rattle.std.specs.List.Sorted.{IsStrictlyIncreasing}
 use Rattle.std.proofs.lemmas.Bool.Decides.{eqb_tells}
-use Rattle.std.specs.BTreeMap.{BTreeMap, get, is_at}
-use Rattle.std.specs.Map.{lookup}
-use Rattle.std.specs.Ordering.{nat_cmp}
+use Rattle.std.proofs.lemmas.List.{take_more, take_all, get_or-set_same, get_or-set_other, get_or-replicate, length-set, length-replicate}
 use Rattle.plan_texts.specs.Types.{Has}
 use Rattle.hplan_text.specs.declared.values.HNode.{HNode}
-use Rattle.hplan_text.specs.Walks.{IsAt, IsIndex, FindsNode, ListsIds}
-use Rattle.hplan_text.proofs.Numbered.{eq-at}
+use Rattle.hplan_text.specs.HPlanFaults.{is_among}
+use Rattle.hplan_text.specs.Walks.{AreOwned, IsAt, IsIndex, FindsNode}
+use Rattle.hplan_text.proofs.Marked.{one-place, among-at}
 
 pub got-has : (xs : List HNode) (j : ℕ) (x : HNode) → slice_get xs j ≡ Some x → Has xs x
 got-has [] j x e = absurd cc
 got-has (y ∷ ys) zero x e = inl (cc)
 got-has (y ∷ ys) (suc j) x e = inr (got-has ys j x e)
 
-pub has-got : (xs : List HNode) (x : HNode) → Has xs x → (j : ℕ) × (slice_get xs j ≡ Some x)
-has-got [] x h = absurd h
-has-got (y ∷ ys) x (inl e) = (zero, ap Some e)
-has-got (y ∷ ys) x (inr h) = let g = has-got ys x h in (suc g.0, g.1)
+got-at : (xs : List HNode) (i : ℕ) (d : HNode) → i < length xs → slice_get xs i ≡ Some (get_or xs i d)
+got-at [] i d l = absurd (omega arith)
+got-at (y ∷ ys) zero d l = refl
+got-at (y ∷ ys) (suc i) d l = got-at ys i d (omega arith)
 
-got-front : (xs ys : List HNode) (j : ℕ) (x : HNode) → slice_get xs j ≡ Some x → slice_get (xs ++ ys) j ≡ Some x
-got-front [] ys j x e = absurd cc
-got-front (y ∷ xs) ys zero x e = e
-got-front (y ∷ xs) ys (suc j) x e = got-front xs ys j x e
+got-past : (xs : List HNode) → slice_get xs (length xs) ≡ None
+got-past [] = refl
+got-past (y ∷ ys) = got-past ys
 
-got-last : (xs : List HNode) (x : HNode) → slice_get (xs ++ x ∷ []) (length xs) ≡ Some x
-got-last [] x = refl
-got-last (y ∷ xs) x = got-last xs x
+has-either : (xs : List HNode) (y x : HNode) → Has (xs ++ y ∷ []) x → Has xs x ⊎ (y ≡ x)
+has-either [] y x (inl e) = inr e
+has-either [] y x (inr h) = absurd h
+has-either (z ∷ xs) y x (inl e) = inl (inl e)
+has-either (z ∷ xs) y x (inr h) = elim (has-either xs y x h) [ inl i ↦ inl (inr i) | inr e ↦ inr e ]
 
-got-either : (xs : List HNode) (y : HNode) (j : ℕ) (x : HNode) → slice_get (xs ++ y ∷ []) j ≡ Some x → (slice_get xs j ≡ Some x) ⊎ ((j ≡ length xs) × (y ≡ x))
-got-either [] y zero x e = inr (refl, cc)
-got-either [] y (suc j) x e = absurd cc
-got-either (z ∷ xs) y zero x e = inl e
-got-either (z ∷ xs) y (suc j) x e = elim (got-either xs y j x e) [ inl f ↦ inl f | inr f ↦ inr (ap suc f.0, f.1) ]
+module _ (ids : List ℕ) (nodes : List HNode) where
+  -- the nodes in front of a place have theirs there
+  pub record IsIndexTo (i : ℕ) (index : List ℕ) : Type 0 where
+    pub sized : length index ≡ length ids
+    pub found : (p : ℕ) (x : HNode) → p < length ids → slice_get nodes (slice_index index p) ≡ Some x → x.line.id ≡ slice_index ids p
+    pub all : (p : ℕ) (x : HNode) → p < length ids → Has (take i nodes) x → x.line.id ≡ slice_index ids p → IsAt nodes x.line.id (slice_index index p)
 
-pub no-index : (index : BTreeMap ℕ ℕ) → index.entries ≡ [] → IsIndex [] index
-no-index index e = record {
-  found = λ n j f. absurd (let g = ap (lookup (is_at (nat_cmp n))) e in let h : get nat_cmp index n ≡ None = g in cc);
-  all = λ n j a. absurd (let g = a.1 in cc);
-}
+  pub no-index : IsIndexTo 0 (replicate (length ids) (length nodes))
+  no-index = record {
+    sized = length-replicate (length ids) (length nodes);
+    found = λ p x l e. absurd (let f = ap (slice_get nodes) (get_or-replicate (length ids) p (length nodes) 0 l) in let g = got-past nodes in cc);
+    all = λ p x l h e. absurd h;
+  }
 
--- a node more
-pub index-next : (xs : List HNode) (y : HNode) (old new : BTreeMap ℕ ℕ) → ((q : ℕ) → get nat_cmp new q ≡ cond (is_at (nat_cmp y.line.id) q) (Some (length xs)) (get nat_cmp old q)) → IsIndex xs old → IsIndex (xs ++ y ∷ []) new
-index-next xs y old new u h = record { found = found; all = all }
-  where
-    at : (q : ℕ) → get nat_cmp new q ≡ cond (y.line.id == q) (Some (length xs)) (get nat_cmp old q)
-    at q = u q ∙ ap (λ t. cond t (Some (length xs)) (get nat_cmp old q)) (eq-at y.line.id q)
+  pub index-whole : (i : ℕ) (index : List ℕ) → length nodes ≤ i → IsIndexTo i index → IsIndex ids nodes index
+  index-whole i index l h = record { sized = h.sized; found = h.found; all = λ p x m k e. h.all p x m (subst (λ z. Has z x) (sym (take_all i nodes l)) k) e }
 
-    found : (n j : ℕ) → get nat_cmp new n ≡ Some j → IsAt (xs ++ y ∷ []) n j
-    found n j e = elim (eqb_tells y.line.id n) [
-      | inl (t, q) ↦ (let f : Some (length xs) ≡ Some j = sym (at n ∙ ap (λ t. cond t (Some (length xs)) (get nat_cmp old n)) t) ∙ e in let k : length xs ≡ j = cc in
-          (y, subst (λ k. slice_get (xs ++ y ∷ []) k ≡ Some y) k (got-last xs y), q))
-      | inr (t, q) ↦ (let f = h.found n j (sym (at n ∙ ap (λ t. cond t (Some (length xs)) (get nat_cmp old n)) t) ∙ e) in (f.0, got-front xs (y ∷ []) j f.0 f.1, f.2))
-    ]
+  module _ (i : ℕ) (d : HNode) (l : i < length nodes) (old : List ℕ) (h : IsIndexTo i old) where
+    abbrev y : HNode
+    y = get_or nodes i d
 
-    kept : (n k : ℕ) → get nat_cmp old n ≡ Some k → (k : ℕ) × (get nat_cmp new n ≡ Some k)
-    kept n k e = elim (eqb_tells y.line.id n) [
-      | inl (t, q) ↦ (length xs, at n ∙ ap (λ t. cond t (Some (length xs)) (get nat_cmp old n)) t)
-      | inr (t, q) ↦ (k, at n ∙ ap (λ t. cond t (Some (length xs)) (get nat_cmp old n)) t ∙ e)
-    ]
+    split : (x : HNode) → Has (take (i + 1) nodes) x → Has (take i nodes) x ⊎ (y ≡ x)
+    split x k = has-either (take i nodes) y x (subst (λ z. Has z x) (take_more nodes i d l) k)
 
-    all : (n j : ℕ) → IsAt (xs ++ y ∷ []) n j → (k : ℕ) × (get nat_cmp new n ≡ Some k)
-    all n j (x, g, i) = elim (got-either xs y j x g) [
-      | inl f ↦ (let o = h.all n j (x, f, i) in kept n o.0 o.1)
-      | inr f ↦ elim (eqb_tells y.line.id n) [
-        | inl (t, q) ↦ (length xs, at n ∙ ap (λ t. cond t (Some (length xs)) (get nat_cmp old n)) t)
-        | inr (t, q) ↦ absurd (q (ap (λ (z : HNode). z.line.id) f.1 ∙ i))
+    -- no id is that of the node
+    pub index-same : is_among y.line.id ids ≡ false → IsIndexTo (i + 1) old
+    index-same none = record {
+      sized = h.sized;
+      found = h.found;
+      all = λ p x m k e. elim (split x k) [
+        | inl j ↦ h.all p x m j e
+        | inr q ↦ absurd (let f = among-at ids p m in let g = ap (λ n. is_among n ids) (ap (λ (z : HNode). z.line.id) q ∙ e) in cc)
+      ];
+    }
+
+    module _ (place : ℕ) (m : place < length ids) (is : slice_index ids place ≡ y.line.id) (rises : IsStrictlyIncreasing ids) (new : List ℕ) (put : new ≡ slice_set old place i) where
+      here : slice_index new place ≡ i
+      here = ap (λ z. slice_index z place) put ∙ get_or-set_same old place i 0 (let e = h.sized in omega arith)
+
+      other : (p : ℕ) → (p ≡ place → ⊥) → slice_index new p ≡ slice_index old p
+      other p n = ap (λ z. slice_index z p) put ∙ get_or-set_other old place p i 0 n
+
+      at-here : (p : ℕ) → p ≡ place → slice_get nodes (slice_index new p) ≡ Some y
+      at-here p e = ap (slice_get nodes) (ap (slice_index new) e ∙ here) ∙ got-at nodes i d l
+
+      found-now : (p : ℕ) (x : HNode) → p < length ids → slice_get nodes (slice_index new p) ≡ Some x → x.line.id ≡ slice_index ids p
+      found-now p x b e = elim (eqb_tells p place) [
+        | inl q ↦ (let f : Some x ≡ Some y = sym e ∙ at-here p q.1 in let g : x ≡ y = cc in ap (λ (z : HNode). z.line.id) g ∙ sym is ∙ ap (slice_index ids) (sym q.1))
+        | inr q ↦ h.found p x b (ap (slice_get nodes) (sym (other p q.1)) ∙ e)
       ]
-    ]
 
--- the node that is found, or none
-pub finds : (nodes : List HNode) (index : BTreeMap ℕ ℕ) (n j : ℕ) → IsIndex nodes index → get nat_cmp index n ≡ Some j → FindsNode nodes n (slice_get nodes j)
-finds nodes index n j h e = let a = h.found n j e in subst (FindsNode nodes n) (sym a.1) (got-has nodes j a.0 a.1, a.2)
+      all-now : (p : ℕ) (x : HNode) → p < length ids → Has (take (i + 1) nodes) x → x.line.id ≡ slice_index ids p → IsAt nodes x.line.id (slice_index new p)
+      all-now p x b k e = elim (eqb_tells p place) [
+        | inl q ↦ (y, at-here p q.1, sym is ∙ ap (slice_index ids) (sym q.1) ∙ sym e)
+        | inr q ↦ elim (split x k) [
+          | inl j ↦ subst (IsAt nodes x.line.id) (sym (other p q.1)) (h.all p x b j e)
+          | inr f ↦ absurd (q.1 (one-place ids p place rises b m (sym e ∙ ap (λ (z : HNode). z.line.id) (sym f) ∙ sym is)))
+        ]
+      ]
 
-pub finds-none : (nodes : List HNode) (index : BTreeMap ℕ ℕ) (n : ℕ) → IsIndex nodes index → get nat_cmp index n ≡ None → FindsNode nodes n None
-finds-none nodes index n h e = λ x i q. (let g = has-got nodes x i in let a = h.all n g.0 (x, g.1, q) in let b = a.1 in cc)
+      pub index-more : IsIndexTo (i + 1) new
+      index-more = record { sized = ap length put ∙ length-set old place i ∙ h.sized; found = found-now; all = all-now }
 
-front-length : (i : ℕ) (xs : List HNode) → i < length xs → length (take i xs) ≡ i
-front-length zero xs l = refl
-front-length (suc i) [] l = absurd (omega arith)
-front-length (suc i) (x ∷ xs) l = ap suc (front-length i xs (omega arith))
+module _ (ids : List ℕ) (nodes : List HNode) (index : List ℕ) (h : IsIndex ids nodes index) (n p : ℕ) (l : p < length ids) (e : slice_index ids p ≡ n) where
+  -- the node that is found, or none
+  pub finds : (x : HNode) → slice_get nodes (slice_index index p) ≡ Some x → FindsNode nodes n (Some x)
+  finds x g = (got-has nodes (slice_index index p) x g, h.found p x l g ∙ e)
 
-pub index-more : (nodes : List HNode) (i : ℕ) (d : HNode) (old new : BTreeMap ℕ ℕ) → i < length nodes
-    → ((q : ℕ) → get nat_cmp new q ≡ cond (is_at (nat_cmp (get_or nodes i d).line.id) q) (Some i) (get nat_cmp old q)) → IsIndex (take i nodes) old → IsIndex (take (i + 1) nodes) new
-index-more nodes i d old new l u h =
-    let n : length (take i nodes) ≡ i = front-length i nodes l in
-    let y : HNode = get_or nodes i d in
-    subst (λ z. IsIndex z new) (sym (take_more nodes i d l))
-    (index-next (take i nodes) y old new (λ q. u q ∙ ap (λ k. cond (is_at (nat_cmp y.line.id) q) (Some k) (get nat_cmp old q)) (sym n)) h)
+  pub finds-none : slice_get nodes (slice_index index p) ≡ None → FindsNode nodes n None
+  finds-none g x i q = let a = h.all p x l i (q ∙ sym e) in absurd (let b = a.1 in cc)
 
-pub index-whole : (nodes : List HNode) (i : ℕ) (index : BTreeMap ℕ ℕ) → length nodes ≤ i → IsIndex (take i nodes) index → IsIndex nodes index
-index-whole nodes i index l h = subst (λ z. IsIndex z index) (take_all i nodes l) h
+-- an id that is none of these has no node
+pub finds-unknown : (ids : List ℕ) (nodes : List HNode) (n : ℕ) → AreOwned ids nodes → is_among n ids ≡ false → FindsNode nodes n None
+finds-unknown ids nodes n owned none x i q = absurd (let a = owned x i in let b = ap (λ k. is_among k ids) q in cc)
 
-pub lists-none : (nodes : List HNode) (index : BTreeMap ℕ ℕ) (n : ℕ) → IsIndex nodes index → get nat_cmp index n ≡ None → ListsIds nodes n []
-lists-none nodes index n h e = (None, finds-none nodes index n h e, refl)
-
-pub lists-found : (nodes : List HNode) (index : BTreeMap ℕ ℕ) (n j : ℕ) (x : HNode) (ids : List ℕ) → IsIndex nodes index → get nat_cmp index n ≡ Some j → slice_get nodes j ≡ Some x → ids ≡ x.ids → ListsIds nodes n ids
-lists-found nodes index n j x ids h e f g = (Some x, subst (FindsNode nodes n) f (finds nodes index n j h e), g)
-
-pub lists-lost : (nodes : List HNode) (index : BTreeMap ℕ ℕ) (n j : ℕ) → IsIndex nodes index → get nat_cmp index n ≡ Some j → slice_get nodes j ≡ None → ListsIds nodes n []
-lists-lost nodes index n j h e f = (None, subst (FindsNode nodes n) f (finds nodes index n j h e), refl)
+-- the node with an id, or that there is none
+pub node-of : (nodes : List HNode) (n : ℕ) → (o : Option HNode) × FindsNode nodes n o
+node-of [] n = (None, λ x h q. absurd h)
+node-of (y ∷ ys) n = elim (eqb_tells y.line.id n) [ inl h ↦ (Some y, (inl refl, h.1)) | inr h ↦ later h.1 (node-of ys n) ]
+  where
+    later : (y.line.id ≡ n → ⊥) → (o : Option HNode) × FindsNode ys n o → (o : Option HNode) × FindsNode (y ∷ ys) n o
+    later f (None, g) = (None, λ x i q. elim i [ inl e ↦ f (ap (λ (z : HNode). z.line.id) e ∙ q) | inr j ↦ g x j q ])
+    later f (Some x, g) = (Some x, (inr g.0, g.1))

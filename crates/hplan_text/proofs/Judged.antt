@@ -1,9 +1,6 @@
 -- The faults of a text are those that were found of its lines, its ids and what the root reaches; and where there is none, the plan is spelled.
 use Rattle.std.proofs.Common.{ℕ, ◌≡◌, ◌∙◌, ◌⊎◌, inl, inr, ◌||◌, ◌==◌, Bool, true, false, not, Option, Some, None, Result, Ok, Err, IfOk, IfErr, List, [], ◌∷◌, ◌++◌, map, drop, length, refl, sym, ap, ap₂, subst}
 use Rattle.std.specs.List.{filter_map, cons_option, list_any}
-use Rattle.std.specs.Ordering.{nat_cmp}
-use Rattle.std.specs.BTreeMap.{is_at}
-use Rattle.std.specs.BTreeSet.{BTreeSet}
 use Rattle.std.proofs.lemmas.Bool.{eq-eqb}
 use Rattle.std.proofs.lemmas.Bool.Decides.{eqb_tells}
 use Rattle.plan_texts.specs.Types.{Has, EachIs}
@@ -17,16 +14,16 @@ use Rattle.hplan_text.specs.declared.mention.Mention.{Mention}
 use Rattle.hplan_text.specs.declared.values.HNode.{HNode}
 use Rattle.hplan_text.specs.declared.values.HPlan.{HPlan}
 use Rattle.hplan_text.specs.Lines.{Line, Marked, marked}
-use Rattle.hplan_text.specs.Rows.{Row, bad, top, primitive, decomposed, row, node, top_ids, is_bad}
+use Rattle.hplan_text.specs.Rows.{Row, bad, top, primitive, decomposed, row, number, node, top_ids, is_bad}
 use Rattle.hplan_text.specs.SpellsHPlan.{rows, own_ids, tops, plan_of, SpellsHPlan}
 use Rattle.hplan_text.specs.HPlanFaults.{bad_place, top_place, bad_places, top_places, no_root, line_faults, is_among, put_if, repeats_behind, repeats, others, faults_at, id_faults, id_faults_of, Reaches, IsUnreached, IsTreeFault, faults_of_lines, faults_of_ids, IsLeastFault}
 use Rattle.hplan_text.specs.Reading.{IsHPlanRead, RefusesHPlan}
 use Rattle.hplan_text.specs.LeastOf.{as_fault, IsLeastOf}
-use Rattle.hplan_text.specs.Sets.{HasIds}
-use Rattle.hplan_text.specs.Walks.{AreOnce, has, HasReached}
-use Rattle.hplan_text.specs.Drafts.{IsDraft, Judges, IsFirstUnreached, RefusedBy, between}
+use Rattle.hplan_text.specs.Marks.{HaveIds, chosen, has}
+use Rattle.hplan_text.specs.Walks.{AreOwned, AreOnce, HasReached}
+use Rattle.hplan_text.specs.Drafts.{IsDraft, Judges, JudgesIds, IsFirstUnreached, RefusedBy, between}
+use Rattle.hplan_text.proofs.Numbered.{among-mapped}
 use Rattle.hplan_text.proofs.PhaseFaults.{least-line, least-id, least-tree, faultless}
-use Rattle.hplan_text.proofs.Numbered.{eq-at}
 
 module _ {X : Type 0} where
   none-left : (xs ys : List X) → xs ++ ys ≡ [] → xs ≡ []
@@ -65,48 +62,29 @@ are-others ns (k ∷ ms) m h e = go (is_among k.id ns) refl h (λ i. are-others 
     go false f (inl q) r = inl q
     go false f (inr h) r = inr (r h)
 
--- a set has its keys
-
-turned : (n k : ℕ) → is_at (nat_cmp n) k ≡ (k == n)
-turned n k = eq-at n k ∙ flip (eqb_tells n k) (eqb_tells k n)
-  where
-    flip : (((n == k) ≡ true) × (n ≡ k)) ⊎ (((n == k) ≡ false) × (n ≡ k → ⊥)) → (((k == n) ≡ true) × (k ≡ n)) ⊎ (((k == n) ≡ false) × (k ≡ n → ⊥)) → (n == k) ≡ (k == n)
-    flip (inl (t, e)) (inl (u, f)) = t ∙ sym u
-    flip (inl (t, e)) (inr (u, f)) = absurd (f (sym e))
-    flip (inr (t, e)) (inl (u, f)) = absurd (e (sym f))
-    flip (inr (t, e)) (inr (u, f)) = t ∙ sym u
-
-same-keys : (n : ℕ) (ks : List ℕ) → list_any (is_at (nat_cmp n)) ks ≡ is_among n ks
-same-keys n [] = refl
-same-keys n (k ∷ ks) = ap₂ (λ a b. a || b) (turned n k) (same-keys n ks)
-
-pub own-keys : (s : BTreeSet ℕ) → HasIds s s.keys
-own-keys s n = same-keys n s.keys
-
--- what isn't reached, where the reached ids are known
-module _ (rs : List Row) (s : BTreeSet ℕ) (reached : HasReached (plan_of rs) s) where
-  unseen : (n : ℕ) → (Reaches (plan_of rs) n → ⊥) → has s n ≡ false
-  unseen n none = go (has s n) refl
+-- what isn't reached, where the reached ids are marked
+module _ (rs : List Row) (ids : List ℕ) (marks : List Bool) (own : (m : Mention) → Has (own_ids rs) m → is_among m.id ids ≡ true) (reached : HasReached (plan_of rs) ids marks) where
+  unseen : (m : Mention) → Has (own_ids rs) m → (Reaches (plan_of rs) m.id → ⊥) → has ids marks m.id ≡ false
+  unseen m h none = go (has ids marks m.id) refl
     where
-      go : (b : Bool) → has s n ≡ b → b ≡ false
-      go true e = absurd (none ((reached n).0 e))
+      go : (b : Bool) → has ids marks m.id ≡ b → b ≡ false
+      go true e = absurd (none ((reached m.id (own m h)).0 e))
       go false e = refl
 
-  unreached-found : (g : Fault) → IsUnreached rs g → Has (faults_at 36 (others s.keys (own_ids rs))) g
+  unreached-found : (g : Fault) → IsUnreached rs g → Has (faults_at 36 (others (chosen ids marks) (own_ids rs))) g
   unreached-found g (m, h, none, e) =
-      let i = are-others s.keys (own_ids rs) m h (sym (own-keys s m.id) ∙ unseen m.id none) in
-      subst (λ z. Has (faults_at 36 (others s.keys (own_ids rs))) z) (sym e) (has-to_map (λ (m : Mention). fault 36 m.at) (others s.keys (own_ids rs)) m i)
+      let i = are-others (chosen ids marks) (own_ids rs) m h (unseen m h none) in
+      subst (λ z. Has (faults_at 36 (others (chosen ids marks) (own_ids rs))) z) (sym e) (has-to_map (λ (m : Mention). fault 36 m.at) (others (chosen ids marks) (own_ids rs)) m i)
 
-  found-unreached : (g : Fault) → Has (faults_at 36 (others s.keys (own_ids rs))) g → IsUnreached rs g
+  found-unreached : (g : Fault) → Has (faults_at 36 (others (chosen ids marks) (own_ids rs))) g → IsUnreached rs g
   found-unreached g h =
-      let x = has-of_map (λ (m : Mention). fault 36 m.at) (others s.keys (own_ids rs)) g h in
-      let o = others-are s.keys (own_ids rs) x.0 x.1 in
-      (x.0, o.0, (λ r. (let a = (reached x.0.id).1 r in let b = own-keys s x.0.id in let c = o.1 in absurd cc)), sym x.2)
+      let x = has-of_map (λ (m : Mention). fault 36 m.at) (others (chosen ids marks) (own_ids rs)) g h in
+      let o = others-are (chosen ids marks) (own_ids rs) x.0 x.1 in
+      (x.0, o.0, (λ r. (let a = (reached x.0.id (own x.0 o.0)).1 r in let c = o.1 in absurd cc)), sym x.2)
 
-  pub first-unreached : (ls : List Line) (end : ℕ) (found : Option Found) → map row ls ≡ rs → IsLeastOf found (faults_at 36 (others s.keys (own_ids rs))) → IsFirstUnreached (between ls end) found
-  first-unreached ls end None e h = λ g u. subst (λ z. Has z g) h (unreached-found g (subst (λ z. IsUnreached z g) e u))
-  first-unreached ls end (Some f) e h =
-      (subst (λ z. IsUnreached z (as_fault f)) (sym e) (found-unreached (as_fault f) h.0), λ g u. h.1 g (unreached-found g (subst (λ z. IsUnreached z g) e u)))
+  first-unreached : (found : Option Found) → IsLeastOf found (faults_at 36 (others (chosen ids marks) (own_ids rs))) → IsFirstUnreached rs found
+  first-unreached None h = λ g u. subst (λ z. Has z g) h (unreached-found g u)
+  first-unreached (Some f) h = (found-unreached (as_fault f) h.0, λ g u. h.1 g (unreached-found g u))
 
 -- where no id repeats, no two nodes have one id
 
@@ -221,36 +199,49 @@ module _ (text : List ℕ) (m : Marked) (e : marked text ≡ Some m) where
   is-tree g t = subst (λ o. IsTreeFault o g) (sym e) t
 
   pub read-plan : Judges m None → IsHPlanRead text (plan_of (rows m))
-  read-plan (a, b, c) = record {
+  read-plan (a, (b, c)) = record {
     faultless = faultless text (sym lines-are ∙ a) (sym ids-are ∙ b) (λ g t. c g (tree-is g t));
     spelled = spelled text m e a;
   }
 
   pub refused-plan : (f : Found) → Judges m (Some f) → IsLeastFault text (as_fault f)
   refused-plan f (inl h) = let k = subst (λ z. IsLeastOf (Some f) z) lines-are h in least-line text (as_fault f) k.0 k.1
-  refused-plan f (inr (inl (a, h))) = let k = subst (λ z. IsLeastOf (Some f) z) ids-are h in least-id text (as_fault f) (sym lines-are ∙ a) k.0 k.1
-  refused-plan f (inr (inr (a, b, h))) = least-tree text (as_fault f) (sym lines-are ∙ a) (sym ids-are ∙ b) (is-tree (as_fault f) h.0) (λ g t. h.1 g (tree-is g t))
+  refused-plan f (inr (a, inl h)) = let k = subst (λ z. IsLeastOf (Some f) z) ids-are h in least-id text (as_fault f) (sym lines-are ∙ a) k.0 k.1
+  refused-plan f (inr (a, inr (b, h))) = least-tree text (as_fault f) (sym lines-are ∙ a) (sym ids-are ∙ b) (is-tree (as_fault f) h.0) (λ g t. h.1 g (tree-is g t))
 
 -- what was found of a draft is so of its lines
-module _ (ls : List Line) (end : ℕ) (d : Draft) (own listed : List Mention) (h : IsDraft ls d) (o : own ≡ d.own.items) (l : listed ≡ d.listed.items) where
-  ids-same : id_faults_of own listed ≡ id_faults (map row ls)
-  ids-same = ap₂ id_faults_of (o ∙ h.own) (l ∙ h.listed)
+module _ (ls : List Line) (d : Draft) (h : IsDraft ls d) (ids : List ℕ) (same : HaveIds ids d.own.items) where
+  ids-same : id_faults_of d.own.items d.listed.items ≡ id_faults (map row ls)
+  ids-same = ap₂ id_faults_of h.own h.listed
 
-  pub once-in : id_faults_of own listed ≡ [] → AreOnce d.plan.nodes
+  among-own : (m : Mention) → Has (own_ids (map row ls)) m → is_among m.id ids ≡ true
+  among-own m k = same m.id ∙ among-mapped m d.own.items (subst (λ z. Has z m) (sym h.own) k)
+
+  pub owned-in : AreOwned ids d.plan.nodes
+  owned-in x k =
+      let o = owned (map row ls) x (subst (λ (p : HPlan). Has p.nodes x) h.plan_is k) in
+      ap (λ n. is_among n ids) (sym o.2) ∙ among-own o.0 o.1
+
+  pub once-in : id_faults_of d.own.items d.listed.items ≡ [] → AreOnce d.plan.nodes
   once-in e = subst (λ (p : HPlan). AreOnce p.nodes) (sym h.plan_is) (nodes-once (map row ls) (sym ids-same ∙ e))
 
-  pub judged-ids : (f : Found) → line_faults (between ls end) ≡ [] → IsLeastOf (Some f) (id_faults_of own listed) → Judges (between ls end) (Some f)
-  judged-ids f a k = inr (inl (a, subst (λ z. IsLeastOf (Some f) z) ids-same k))
+  pub judged-ids : (f : Found) → IsLeastOf (Some f) (id_faults_of d.own.items d.listed.items) → JudgesIds (map row ls) (Some f)
+  judged-ids f k = inl (subst (λ z. IsLeastOf (Some f) z) ids-same k)
 
-  pub judged-tree : (s : BTreeSet ℕ) (found : Option Found) → line_faults (between ls end) ≡ [] → id_faults_of own listed ≡ [] → HasReached d.plan s
-      → ((ns : List ℕ) → HasIds s ns → IsLeastOf found (faults_at 36 (others ns own))) → Judges (between ls end) found
-  judged-tree s found a e reached least =
-      last found (first-unreached (map row ls) s (subst (λ p. HasReached p s) h.plan_is reached) ls end found refl
-      (subst (λ z. IsLeastOf found (faults_at 36 (others s.keys z))) (o ∙ h.own) (least s.keys (own-keys s))))
+  pub judged-tree : (marks : List Bool) (found : Option Found) → id_faults_of d.own.items d.listed.items ≡ [] → HasReached d.plan ids marks
+      → IsLeastOf found (faults_at 36 (others (chosen ids marks) d.own.items)) → JudgesIds (map row ls) found
+  judged-tree marks found e reached least =
+      last found (first-unreached (map row ls) ids marks among-own (subst (λ p. HasReached p ids marks) h.plan_is reached) found
+      (subst (λ z. IsLeastOf found (faults_at 36 (others (chosen ids marks) z))) h.own least))
     where
-      last : (found : Option Found) → IsFirstUnreached (between ls end) found → Judges (between ls end) found
-      last None u = (a, sym ids-same ∙ e, u)
-      last (Some f) u = inr (inr (a, sym ids-same ∙ e, u))
+      last : (found : Option Found) → IsFirstUnreached (map row ls) found → JudgesIds (map row ls) found
+      last None u = (sym ids-same ∙ e, u)
+      last (Some f) u = inr (sym ids-same ∙ e, u)
+
+-- behind the lines the ids are judged
+pub judged-then : (ls : List Line) (end : ℕ) (found : Option Found) → line_faults (between ls end) ≡ [] → JudgesIds (map row ls) found → Judges (between ls end) found
+judged-then ls end None a j = (a, j)
+judged-then ls end (Some f) a j = inr (a, j)
 
 pub if-ok : {T E : Type 0} {P Q : T → Type 0} (r : Result T E) → ((x : T) → P x → Q x) → IfOk r P → IfOk r Q
 if-ok (Ok x) f h = f x h

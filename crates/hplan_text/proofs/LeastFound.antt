@@ -21,7 +21,7 @@ pub has-right : {X : Type 0} (xs ys : List X) (x : X) → Has ys x → Has (xs +
 has-right [] ys x h = h
 has-right (y ∷ xs) ys x h = inr (has-right xs ys x h)
 
-before-then : (f g h : Fault) → IsBefore f g → IsBefore g h → IsBefore f h
+pub before-then : (f g h : Fault) → IsBefore f g → IsBefore g h → IsBefore f h
 before-then f g h (inl a) (inl b) = inl (omega arith)
 before-then f g h (inl a) (inr b) = let e = b.0 in inl (omega arith)
 before-then f g h (inr a) (inl b) = let e = a.0 in inl (omega arith)

@@ -5,6 +5,7 @@ pub mod Rowed
 pub mod PhaseFaults
 pub mod LeastFound
 pub mod Drafted
+pub mod Marked
 pub mod Numbered
 pub mod Indexed
 pub mod Walked

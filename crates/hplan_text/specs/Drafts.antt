@@ -66,15 +66,19 @@ FirstAt [] o = o ≡ None
 FirstAt (s ∷ ss) o = o ≡ Some s.at
 
 -- the least of the unreached lines
-abbrev pub IsFirstUnreached : Marked → Option Found → Type 0
-IsFirstUnreached m None = (g : Fault) → IsUnreached (rows m) g → ⊥
-IsFirstUnreached m (Some f) = IsUnreached (rows m) (as_fault f) × ((g : Fault) → IsUnreached (rows m) g → IsBefore (as_fault f) g)
+abbrev pub IsFirstUnreached : List Row → Option Found → Type 0
+IsFirstUnreached rs None = (g : Fault) → IsUnreached rs g → ⊥
+IsFirstUnreached rs (Some f) = IsUnreached rs (as_fault f) × ((g : Fault) → IsUnreached rs g → IsBefore (as_fault f) g)
+
+-- the least fault of ids, or where there is none, of the tree
+abbrev pub JudgesIds : List Row → Option Found → Type 0
+JudgesIds rs None = (id_faults rs ≡ []) × IsFirstUnreached rs None
+JudgesIds rs (Some f) = IsLeastOf (Some f) (id_faults rs) ⊎ ((id_faults rs ≡ []) × IsFirstUnreached rs (Some f))
 
 -- the least fault of the first phase that has any
 abbrev pub Judges : Marked → Option Found → Type 0
-Judges m None = (line_faults m ≡ []) × (id_faults (rows m) ≡ []) × IsFirstUnreached m None
-Judges m (Some f) =
-    IsLeastOf (Some f) (line_faults m) ⊎ ((line_faults m ≡ []) × IsLeastOf (Some f) (id_faults (rows m))) ⊎ ((line_faults m ≡ []) × (id_faults (rows m) ≡ []) × IsFirstUnreached m (Some f))
+Judges m None = (line_faults m ≡ []) × JudgesIds (rows m) None
+Judges m (Some f) = IsLeastOf (Some f) (line_faults m) ⊎ ((line_faults m ≡ []) × JudgesIds (rows m) (Some f))
 
 -- why a draft is refused; or memory ran out
 abbrev pub RefusedBy : ℕ → Marked → ReadError → Type 0

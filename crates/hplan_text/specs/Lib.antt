@@ -7,7 +7,7 @@ pub mod Reading
 pub mod Scanning
 pub mod LeastOf
 pub mod Drafts
-pub mod Sets
+pub mod Marks
 pub mod Walks
 pub mod ShownPlan
 pub mod Printable

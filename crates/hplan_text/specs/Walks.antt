@@ -1,21 +1,24 @@
--- What the root reaches, as it is found: an id is taken, and then those that its node lists.
+-- What the root reaches, as it is found: an id is taken, and then those that its node lists. Reached ids are marked.
 -- Source: this project's.
-use Rattle.std.specs.Prelude.{ℕ, ◌≡◌, ◌==◌, Bool, true, cond, List, [], ◌++◌, Option, Some, None, slice_get}
-use Rattle.std.specs.BTreeMap as maps
-use Rattle.std.specs.BTreeSet as sets
-use Rattle.std.specs.Ordering.{nat_cmp}
+use Rattle.std.specs.Prelude.{ℕ, ◌≡◌, ◌==◌, ◌<◌, Bool, true, cond, List, [], ◌++◌, length, Option, Some, None, slice_get, slice_index}
 use Rattle.plan_texts.specs.Types.{Has}
 use Rattle.hplan_text.specs.declared.values.HNode.{HNode}
 use Rattle.hplan_text.specs.declared.values.HPlan.{HPlan}
-use Rattle.hplan_text.specs.HPlanFaults.{Reaches}
+use Rattle.hplan_text.specs.HPlanFaults.{Reaches, is_among}
+use Rattle.hplan_text.specs.Marks.{has}
+
+-- the nodes have these ids
+abbrev pub AreOwned : List ℕ → List HNode → Type 0
+AreOwned ids nodes = (x : HNode) → Has nodes x → is_among x.line.id ids ≡ true
 
 abbrev pub IsAt : List HNode → ℕ → ℕ → Type 0
 IsAt nodes n j = (x : HNode) × (slice_get nodes j ≡ Some x) × (x.line.id ≡ n)
 
--- each place that is found has a node with the id, and one is found where there is one
-pub record IsIndex (nodes : List HNode) (index : maps.BTreeMap ℕ ℕ) : Type 0 where
-  pub found : (n j : ℕ) → maps.get nat_cmp index n ≡ Some j → IsAt nodes n j
-  pub all : (n j : ℕ) → IsAt nodes n j → (k : ℕ) × (maps.get nat_cmp index n ≡ Some k)
+-- at each id's place the place of a node with this id, where there is one
+pub record IsIndex (ids : List ℕ) (nodes : List HNode) (index : List ℕ) : Type 0 where
+  pub sized : length index ≡ length ids
+  pub found : (p : ℕ) (x : HNode) → p < length ids → slice_get nodes (slice_index index p) ≡ Some x → x.line.id ≡ slice_index ids p
+  pub all : (p : ℕ) (x : HNode) → p < length ids → Has nodes x → x.line.id ≡ slice_index ids p → IsAt nodes x.line.id (slice_index index p)
 
 abbrev pub FindsNode : List HNode → ℕ → Option HNode → Type 0
 FindsNode nodes n None = (x : HNode) → Has nodes x → x.line.id ≡ n → ⊥
@@ -25,24 +28,18 @@ FindsNode nodes n (Some x) = Has nodes x × (x.line.id ≡ n)
 abbrev pub AreOnce : List HNode → Type 0
 AreOnce nodes = (x y : HNode) → Has nodes x → Has nodes y → x.line.id ≡ y.line.id → x ≡ y
 
-abbrev pub has : sets.BTreeSet ℕ → ℕ → Bool
-has s n = sets.contains nat_cmp s n
-
-abbrev pub HasReached : HPlan → sets.BTreeSet ℕ → Type 0
-HasReached plan s = (n : ℕ) → ((has s n ≡ true → Reaches plan n) × (Reaches plan n → has s n ≡ true))
+-- of these ids those are marked that the root reaches
+abbrev pub HasReached : HPlan → List ℕ → List Bool → Type 0
+HasReached plan ids marks = (n : ℕ) → is_among n ids ≡ true → (has ids marks n ≡ true → Reaches plan n) × (Reaches plan n → has ids marks n ≡ true)
 
 -- the ids of the node, where there is one
 abbrev pub ids_of : Option HNode → List ℕ
 ids_of None = []
 ids_of (Some x) = x.ids
 
--- the ids are those of a node with this id, or there is none
-abbrev pub ListsIds : List HNode → ℕ → List ℕ → Type 0
-ListsIds nodes n ids = (node : Option HNode) × FindsNode nodes n node × (ids ≡ ids_of node)
-
--- an id is taken: it is reached now, and what its node lists is to be taken, if it wasn't reached before
-pub record Visits (plan : HPlan) (id : ℕ) (old : sets.BTreeSet ℕ) (todo : List ℕ) (new : sets.BTreeSet ℕ) (more : List ℕ) : Type 0 where
+-- an id is taken: it is marked now, if it is one of these, and what its node lists is to be taken, if it wasn't marked before
+pub record Visits (plan : HPlan) (ids : List ℕ) (id : ℕ) (old : List Bool) (todo : List ℕ) (new : List Bool) (more : List ℕ) : Type 0 where
   pub node : Option HNode
   pub finds : FindsNode plan.nodes id node
-  pub taken : (n : ℕ) → has new n ≡ cond (id == n) true (has old n)
-  pub todo_is : more ≡ cond (has old id) todo (todo ++ ids_of node)
+  pub taken : (n : ℕ) → is_among n ids ≡ true → has ids new n ≡ cond (id == n) true (has ids old n)
+  pub todo_is : more ≡ cond (has ids old id) todo (todo ++ ids_of node)

@@ -1,67 +1,62 @@
-ghost use Rattle.std.specs.Prelude.{IfOk, OnOk};
-ghost use Rattle.hplan_text.specs.Walks.{IsIndex, ListsIds, AreOnce, HasReached, Visits};
+ghost use Rattle.std.specs.Prelude.{◌≡◌, length, IfOk, OnOk};
+ghost use Rattle.std.specs.List.Sorted.{IsStrictlyIncreasing};
+ghost use Rattle.hplan_text.specs.Walks.{AreOwned, IsIndex, AreOnce, HasReached, Visits};
 
+use crate::ids::{Taken, place_of, take};
 use crate::values::{HNode, HPlan};
-use htn_base::{List, Memory};
+use htn_base::Memory;
 use std::alloc::Global;
-use std::collections::{BTreeMap, BTreeSet};
 
-// The place of a node with an id, for each id that a node has.
-fn index_of(alloc: Global, nodes: &[HNode]) -> Result<BTreeMap<u64, usize>, Memory>
-    ensures { IfOk result (IsIndex nodes.now) }
+// The place of a node with each id, or a place past all nodes where no node has it.
+fn index_of(alloc: Global, ids: &[u64], nodes: &[HNode]) -> Result<Vec<usize>, Memory>
+    requires rises { IsStrictlyIncreasing ids.now }
+    ensures index { IfOk result (λ index. IsIndex ids.now nodes.now index.items) }
 {
-    let mut index = BTreeMap::new(alloc);
+    let mut index = vec![in alloc; nodes.len(); ids.len()]?;
     for i in 0..nodes.len() {
-        index.insert(nodes[i].line.id, i)?;
+        if let Some(place) = place_of(ids, nodes[i].line.id) {
+            index[place] = i;
+        }
     }
     Ok(index)
-}
-
-// The ids that a node with this id lists, or none where no node has it.
-fn ids_listed<'a>(nodes: &'a List<HNode>, index: &BTreeMap<u64, usize>, id: u64) -> &'a [u64]
-    requires index { IsIndex nodes.now index.now }
-    ensures { ListsIds nodes.now id result.now }
-{
-    match index.get(&id) {
-        Some(i) => match nodes.get(*i) {
-            Some(node) => node.ids.as_slice(),
-            None => &[],
-        },
-        None => &[],
-    }
 }
 
 // Takes an id as reached. The ids that its node lists are to be taken then, where it wasn't reached before.
 fn visit(
     plan: &HPlan,
-    index: &BTreeMap<u64, usize>,
+    ids: &[u64],
+    index: &[usize],
     id: u64,
-    reached: &mut BTreeSet<u64>,
+    reached: &mut [bool],
     todo: &mut Vec<u64>,
 ) -> Result<(), Memory>
-    requires index { IsIndex plan.now.nodes index.now }
-    ensures visited { OnOk result (Visits plan.now id reached.old todo.old.items reached.new todo.new.items) }
+    requires rises { IsStrictlyIncreasing ids.now }
+    requires owned { AreOwned ids.now plan.now.nodes }
+    requires index { IsIndex ids.now plan.now.nodes index.now }
+    requires sized { length reached.old ≡ length ids.now }
+    ensures visited { OnOk result (Visits plan.now ids.now id reached.old todo.old.items reached.new todo.new.items) }
 {
-    let ids = ids_listed(&plan.nodes, index, id);
-    let new = reached.insert(id)?;
-    if !new {
-        return Ok(());
+    if let Taken::New(place) = take(ids, id, reached) {
+        if let Some(node) = plan.nodes.get(index[place]) {
+            todo.extend_from_slice(node.ids.as_slice())?;
+        }
     }
-    todo.extend_from_slice(ids)?;
     Ok(())
 }
 
-/// The ids that the root reaches, where no two nodes have one id.
-pub(crate) fn reached(alloc: Global, plan: &HPlan) -> Result<BTreeSet<u64>, Memory>
+/// Marks the ids that the root reaches, where no two nodes have one id.
+pub(crate) fn reached(alloc: Global, plan: &HPlan, ids: &[u64]) -> Result<Vec<bool>, Memory>
     requires once { AreOnce plan.now.nodes }
-    ensures { IfOk result (HasReached plan.now) }
+    requires rises { IsStrictlyIncreasing ids.now }
+    requires owned { AreOwned ids.now plan.now.nodes }
+    ensures sized { IfOk result (λ reached. length reached.items ≡ length ids.now) }
+    ensures reached { IfOk result (λ reached. HasReached plan.now ids.now reached.items) }
 {
-    let index = index_of(alloc, plan.nodes.as_slice())?;
-    let mut reached = BTreeSet::new(alloc);
+    let index = index_of(alloc, ids, plan.nodes.as_slice())?;
+    let mut reached = vec![in alloc; false; ids.len()]?;
     let mut todo = Vec::from_slice(alloc, plan.root.as_slice())?;
     while let Some(id) = todo.pop() {
-        visit(plan, &index, id, &mut reached, &mut todo)?;
+        visit(plan, ids, &index, id, &mut reached, &mut todo)?;
     }
-    drop(index);
     Ok(reached)
 }
