@@ -7,15 +7,17 @@
 # text that is, and the load of the machine over the last minute; each figure is the least of three runs. Where valgrind is at hand, before that
 # the instructions a byte, on an eighth and on the whole. Arguments name the texts that are tried, all where there are none.
 #
-# Instructions a byte, of the whole: tasks in order 144.9, tasks mixed 140.2, lines in order 308.2, lines mixed 274.8; of an eighth 144.9, 134.4,
-# 304.0 and 273.7. The most memory: 7.7, 7.5, 11.2 and 10.7 times the text. Milliseconds at loads of 6 to 9: 357, 2,230, 923 and 2,377. Of the
-# instructions of tasks in order about a fifth is `BTreeSet::insert`, and of lines mixed two fifths.
+# Instructions a byte, of the whole: tasks in order 76.7, tasks mixed 79.8, lines in order 88.3, lines mixed 99.5; of an eighth 83.9, 86.6, 94.1
+# and 104.8. The most memory: 7.4, 7.4, 10.8 and 10.8 times the text. Milliseconds at loads of 13 to 16: 728, 1,660, 1,010 and 958. Of the
+# instructions of tasks in order a third is the system's malloc and free, and a fifth is next_line. Before ids stood in one ascending list
+# with marks, and words without upper-case letters were copied whole: 144.9, 140.2, 308.2 and 274.8; 144.9, 134.4, 304.0 and 273.7; 7.7, 7.5,
+# 11.2 and 10.7 times the text.
 set -euo pipefail
 top=$(cd "$(dirname "$0")/.." && pwd)
 work=$(mktemp -d)
 trap 'rm -rf "$work"' EXIT
 mkdir -p "$work/crates/hplan_bench/src"
-for crate in htn_base text_forms plan_model plan_texts hplan_text; do
+for crate in htn_base text_forms plan_model plan_texts tree_core hplan_text; do
     cp -a "$top/crates/$crate" "$work/crates/"
     grep "^$crate:" "$top/crates.txt" >>"$work/crates.txt"
 done

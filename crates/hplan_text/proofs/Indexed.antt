@@ -1,11 +1,12 @@
 -- The places of nodes, at the places of their ids.
-use Rattle.std.proofs.Common.{ℕ, zero, suc, ◌≡◌, ◌∙◌, ◌+◌, ◌<◌, ◌≤◌, ◌⊎◌, inl, inr, ◌==◌, Bool, true, false, cond, Option, Some, None, List, [], ◌∷◌, ◌++◌, take, length, get_or, slice_get, slice_index, slice_set, replicate, refl, sym, ap, subst, arith}
+use Rattle.std.proofs.Common.{ℕ, zero, suc, ◌≡◌, ◌∙◌, ◌+◌, ◌<◌, ◌≤◌, ◌⊎◌, inl, inr, false, Option, Some, None, List, [], ◌∷◌, ◌++◌, take, length, get_or, slice_get, slice_index, slice_set, replicate, refl, sym, ap, subst, arith}
 use Rattle.std.specs.List.Sorted.{IsStrictlyIncreasing}
 use Rattle.std.proofs.lemmas.Bool.Decides.{eqb_tells}
 use Rattle.std.proofs.lemmas.List.{take_more, take_all, get_or-set_same, get_or-set_other, get_or-replicate, length-set, length-replicate}
 use Rattle.plan_texts.specs.Types.{Has}
 use Rattle.hplan_text.specs.declared.values.HNode.{HNode}
 use Rattle.hplan_text.specs.HPlanFaults.{is_among}
+use Rattle.hplan_text.specs.Marks.{among}
 use Rattle.hplan_text.specs.Walks.{AreOwned, IsAt, IsIndex, FindsNode}
 use Rattle.hplan_text.proofs.Marked.{one-place, among-at}
 
@@ -101,7 +102,7 @@ module _ (ids : List ℕ) (nodes : List HNode) (index : List ℕ) (h : IsIndex i
   finds-none g x i q = let a = h.all p x l i (q ∙ sym e) in absurd (let b = a.1 in cc)
 
 -- an id that is none of these has no node
-pub finds-unknown : (ids : List ℕ) (nodes : List HNode) (n : ℕ) → AreOwned ids nodes → is_among n ids ≡ false → FindsNode nodes n None
+pub finds-unknown : (ids : List ℕ) (nodes : List HNode) (n : ℕ) → AreOwned (among ids) nodes → is_among n ids ≡ false → FindsNode nodes n None
 finds-unknown ids nodes n owned none x i q = absurd (let a = owned x i in let b = ap (λ k. is_among k ids) q in cc)
 
 -- the node with an id, or that there is none

@@ -1,8 +1,7 @@
 -- The faults of a text are those that were found of its lines, its ids and what the root reaches; and where there is none, the plan is spelled.
-use Rattle.std.proofs.Common.{ℕ, ◌≡◌, ◌∙◌, ◌⊎◌, inl, inr, ◌||◌, ◌==◌, Bool, true, false, not, Option, Some, None, Result, Ok, Err, IfOk, IfErr, List, [], ◌∷◌, ◌++◌, map, drop, length, refl, sym, ap, ap₂, subst}
-use Rattle.std.specs.List.{filter_map, cons_option, list_any}
+use Rattle.std.proofs.Common.{ℕ, ◌≡◌, ◌∙◌, inl, inr, ◌||◌, ◌==◌, Bool, true, false, not, Option, Some, None, Result, Ok, Err, IfOk, IfErr, List, [], ◌∷◌, ◌++◌, map, drop, length, refl, sym, ap, ap₂, subst}
+use Rattle.std.specs.List.{filter_map, cons_option}
 use Rattle.std.proofs.lemmas.Bool.{eq-eqb}
-use Rattle.std.proofs.lemmas.Bool.Decides.{eqb_tells}
 use Rattle.plan_texts.specs.Types.{Has, EachIs}
 use Rattle.plan_texts.proofs.Members.{has-to_map, has-of_map}
 use Rattle.text_forms.specs.Faults.{Fault, fault}
@@ -14,12 +13,12 @@ use Rattle.hplan_text.specs.declared.mention.Mention.{Mention}
 use Rattle.hplan_text.specs.declared.values.HNode.{HNode}
 use Rattle.hplan_text.specs.declared.values.HPlan.{HPlan}
 use Rattle.hplan_text.specs.Lines.{Line, Marked, marked}
-use Rattle.hplan_text.specs.Rows.{Row, bad, top, primitive, decomposed, row, number, node, top_ids, is_bad}
+use Rattle.hplan_text.specs.Rows.{Row, bad, top, primitive, decomposed, row, node, top_ids, is_bad}
 use Rattle.hplan_text.specs.SpellsHPlan.{rows, own_ids, tops, plan_of, SpellsHPlan}
 use Rattle.hplan_text.specs.HPlanFaults.{bad_place, top_place, bad_places, top_places, no_root, line_faults, is_among, put_if, repeats_behind, repeats, others, faults_at, id_faults, id_faults_of, Reaches, IsUnreached, IsTreeFault, faults_of_lines, faults_of_ids, IsLeastFault}
 use Rattle.hplan_text.specs.Reading.{IsHPlanRead, RefusesHPlan}
 use Rattle.hplan_text.specs.LeastOf.{as_fault, IsLeastOf}
-use Rattle.hplan_text.specs.Marks.{HaveIds, chosen, has}
+use Rattle.hplan_text.specs.Marks.{HaveIds, among, chosen, has}
 use Rattle.hplan_text.specs.Walks.{AreOwned, AreOnce, HasReached}
 use Rattle.hplan_text.specs.Drafts.{IsDraft, Judges, JudgesIds, IsFirstUnreached, RefusedBy, between}
 use Rattle.hplan_text.proofs.Numbered.{among-mapped}
@@ -63,7 +62,7 @@ are-others ns (k ∷ ms) m h e = go (is_among k.id ns) refl h (λ i. are-others 
     go false f (inr h) r = inr (r h)
 
 -- what isn't reached, where the reached ids are marked
-module _ (rs : List Row) (ids : List ℕ) (marks : List Bool) (own : (m : Mention) → Has (own_ids rs) m → is_among m.id ids ≡ true) (reached : HasReached (plan_of rs) ids marks) where
+module _ (rs : List Row) (ids : List ℕ) (marks : List Bool) (own : (m : Mention) → Has (own_ids rs) m → is_among m.id ids ≡ true) (reached : HasReached (plan_of rs) (among ids) (has ids marks)) where
   unseen : (m : Mention) → Has (own_ids rs) m → (Reaches (plan_of rs) m.id → ⊥) → has ids marks m.id ≡ false
   unseen m h none = go (has ids marks m.id) refl
     where
@@ -217,7 +216,7 @@ module _ (ls : List Line) (d : Draft) (h : IsDraft ls d) (ids : List ℕ) (same 
   among-own : (m : Mention) → Has (own_ids (map row ls)) m → is_among m.id ids ≡ true
   among-own m k = same m.id ∙ among-mapped m d.own.items (subst (λ z. Has z m) (sym h.own) k)
 
-  pub owned-in : AreOwned ids d.plan.nodes
+  pub owned-in : AreOwned (among ids) d.plan.nodes
   owned-in x k =
       let o = owned (map row ls) x (subst (λ (p : HPlan). Has p.nodes x) h.plan_is k) in
       ap (λ n. is_among n ids) (sym o.2) ∙ among-own o.0 o.1
@@ -228,10 +227,10 @@ module _ (ls : List Line) (d : Draft) (h : IsDraft ls d) (ids : List ℕ) (same 
   pub judged-ids : (f : Found) → IsLeastOf (Some f) (id_faults_of d.own.items d.listed.items) → JudgesIds (map row ls) (Some f)
   judged-ids f k = inl (subst (λ z. IsLeastOf (Some f) z) ids-same k)
 
-  pub judged-tree : (marks : List Bool) (found : Option Found) → id_faults_of d.own.items d.listed.items ≡ [] → HasReached d.plan ids marks
+  pub judged-tree : (marks : List Bool) (found : Option Found) → id_faults_of d.own.items d.listed.items ≡ [] → HasReached d.plan (among ids) (has ids marks)
       → IsLeastOf found (faults_at 36 (others (chosen ids marks) d.own.items)) → JudgesIds (map row ls) found
   judged-tree marks found e reached least =
-      last found (first-unreached (map row ls) ids marks among-own (subst (λ p. HasReached p ids marks) h.plan_is reached) found
+      last found (first-unreached (map row ls) ids marks among-own (subst (λ p. HasReached p (among ids) (has ids marks)) h.plan_is reached) found
       (subst (λ z. IsLeastOf found (faults_at 36 (others (chosen ids marks) z))) h.own least))
     where
       last : (found : Option Found) → IsFirstUnreached (map row ls) found → JudgesIds (map row ls) found

@@ -1,8 +1,7 @@
 -- Ids in ascending order, and marks on some of them.
-use Rattle.std.proofs.Common.{ℕ, zero, suc, ◌≡◌, ◌∙◌, ◌+◌, ◌<◌, ◌≤◌, ◌⊎◌, inl, inr, ◌==◌, ◌||◌, Bool, true, false, cond, Option, Some, None, Result, Ok, Err, List, [], ◌∷◌, length, map, slice_index, slice_index_or, slice_set, replicate, take, drop, ◌++◌, refl, sym, ap, ap₂, subst, arith}
-use Rattle.std.specs.List.{list_any, dedup, Contains}
-use Rattle.std.specs.List.Sorted.{IsStrictlyIncreasing, IsPermutation, IsSorted}
-use Rattle.std.specs.Ordering.{nat_cmp}
+use Rattle.std.proofs.Common.{ℕ, zero, suc, ◌≡◌, ◌∙◌, ◌<◌, ◌≤◌, inl, inr, ◌==◌, ◌||◌, Bool, true, false, cond, List, [], ◌∷◌, length, map, slice_index, slice_index_or, slice_set, replicate, take, drop, ◌++◌, refl, sym, ap, ap₂, arith}
+use Rattle.std.specs.List.{dedup, Contains}
+use Rattle.std.specs.List.Sorted.{IsStrictlyIncreasing, IsPermutation}
 use Rattle.std.proofs.lemmas.Bool.{eq-eqb}
 use Rattle.std.proofs.lemmas.Bool.Decides.{eqb_tells}
 use Rattle.std.proofs.lemmas.List.{append-nil, take_all}
@@ -11,7 +10,7 @@ use Rattle.std.proofs.lemmas.List.Sorted.{list_any-IsPermutation}
 use Rattle.hplan_text.specs.declared.mention.Mention.{Mention}
 use Rattle.hplan_text.specs.HPlanFaults.{is_among}
 use Rattle.hplan_text.specs.Rows.{number}
-use Rattle.hplan_text.specs.Marks.{HaveIds, IsPlaceOf, chosen, has}
+use Rattle.hplan_text.specs.Marks.{HaveIds, chosen, has}
 
 pub eqb-apart : (m n : ℕ) → (m ≡ n → ⊥) → (m == n) ≡ false
 eqb-apart m n f = elim (eqb_tells m n) [ inl h ↦ absurd (f h.1) | inr h ↦ h.0 ]

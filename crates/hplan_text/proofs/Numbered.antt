@@ -1,5 +1,5 @@
 -- Ids that are seen one after another, each judged by whether it is known and was seen.
-use Rattle.std.proofs.Common.{ℕ, zero, suc, ◌≡◌, ◌∙◌, ◌+◌, ◌<◌, ◌≤◌, ◌⊎◌, inl, inr, ◌||◌, ◌==◌, Bool, true, false, not, Option, Some, None, List, [], ◌∷◌, ◌++◌, map, drop, length, get_or, refl, sym, ap, ap₂, subst, append_assoc, add-one, arith}
+use Rattle.std.proofs.Common.{ℕ, zero, suc, ◌≡◌, ◌∙◌, ◌+◌, ◌<◌, ◌≤◌, inl, inr, ◌||◌, ◌==◌, Bool, true, false, not, Option, Some, None, List, [], ◌∷◌, ◌++◌, map, drop, length, get_or, refl, sym, ap, ap₂, subst, append_assoc, add-one, arith}
 use Rattle.std.proofs.Math.Seq.{drop-cons}
 use Rattle.std.proofs.lemmas.List.{append-nil, map-append}
 use Rattle.std.proofs.lemmas.Bool.{eq-eqb}
@@ -15,7 +15,7 @@ use Rattle.hplan_text.specs.HPlanFaults.{is_among, put_if, repeats_behind, repea
 use Rattle.hplan_text.specs.LeastOf.{as_fault, IsLeastOf, faults_unless}
 use Rattle.hplan_text.specs.Marks.{HaveIds, has, Takes, Tells, wrong}
 use Rattle.hplan_text.proofs.LeastFound.{has-split, has-left, has-right, before-then}
-use Rattle.hplan_text.proofs.Marked.{is-known, marked-now, chosen-sub, among-at}
+use Rattle.hplan_text.proofs.Marked.{is-known, marked-now, among-at}
 use Rattle.hplan_text.proofs.PhaseFaults.{itself}
 
 pub faults-append : (code : ℕ) (ms ns : List Mention) → faults_at code (ms ++ ns) ≡ faults_at code ms ++ faults_at code ns
@@ -83,10 +83,13 @@ module _ (unknown again : ℕ) (ids : List ℕ) where
     unknown-next : unknown ≤ again → (s : Bool) → Before → AreOf (fault unknown m.at ∷ ws) (faults_at unknown (m ∷ us) ++ faults_at again (put_if s m rs))
     unknown-next le s h = record {
       all = λ f i. elim i [ inl e ↦ inl e | inr j ↦ up false s f (h.all f j) ];
-      behind = λ g i. elim i [ inl e ↦ here (fault unknown m.at) g e | inr j ↦ elim (has-split (faults_at unknown us) (faults_at again (put_if s m rs)) g j) [
-        | inl k ↦ later (fault unknown m.at) g (down-left h g k)
-        | inr k ↦ seen s g k
-      ] ];
+      behind = λ g i. elim i [
+        | inl e ↦ here (fault unknown m.at) g e
+        | inr j ↦ elim (has-split (faults_at unknown us) (faults_at again (put_if s m rs)) g j) [
+          | inl k ↦ later (fault unknown m.at) g (down-left h g k)
+          | inr k ↦ seen s g k
+        ]
+      ];
     }
       where
         seen : (s : Bool) (g : Fault) → Has (faults_at again (put_if s m rs)) g → (f : Fault) × Has (fault unknown m.at ∷ ws) f × IsBefore f g

@@ -1,9 +1,8 @@
 -- The plan that is read of a text is sound.
-use Rattle.std.proofs.Common.{ℕ, zero, suc, ◌≡◌, ◌∙◌, ◌+◌, ◌≤◌, ◌⊎◌, inl, inr, ◌==◌, ◌||◌, Bool, true, false, not, cond, Option, Some, None, List, [], ◌∷◌, ◌++◌, map, length, refl, sym, ap, subst, arith}
-use Rattle.std.specs.BTreeSet.{BTreeSet}
+use Rattle.std.proofs.Common.{ℕ, zero, suc, ◌≡◌, ◌∙◌, ◌+◌, ◌≤◌, ◌⊎◌, inl, inr, ◌==◌, ◌||◌, Bool, true, false, not, cond, List, [], ◌∷◌, ◌++◌, map, length, refl, sym, ap, subst, arith}
 use Rattle.std.specs.List.{filter_map}
 use Rattle.std.specs.Prelude.{Contains}
-use Rattle.std.proofs.lemmas.Bool.{eq-eqb, ne_eqb}
+use Rattle.std.proofs.lemmas.Bool.{eq-eqb}
 use Rattle.std.proofs.lemmas.Bool.Decides.{eqb_tells}
 use Rattle.std.proofs.lemmas.List.{append-nil, map-append}
 use Rattle.htn_base.specs.Different.{AreDifferent}
@@ -11,16 +10,16 @@ use Rattle.plan_texts.specs.Types.{Has}
 use Rattle.plan_texts.proofs.Members.{contains-has, has-contains, has-to_map, has-of_map}
 use Rattle.text_forms.specs.Faults.{Fault, fault}
 use Rattle.hplan_text.specs.declared.mention.Mention.{Mention}
-use Rattle.hplan_text.specs.declared.values.HNode.{HNode}
 use Rattle.hplan_text.specs.declared.values.HPlan.{HPlan}
 use Rattle.hplan_text.specs.Rows.{Row, bad, top, primitive, decomposed, number, primitive_line, node}
 use Rattle.hplan_text.specs.SpellsHPlan.{rows, own_ids, all_listed, tops, first_top, plan_of}
 use Rattle.hplan_text.specs.HPlanFaults.{is_among, put_if, repeats_behind, repeats, others, faults_at, id_faults, faults_of_ids, Reaches, IsUnreached, IsTreeFault}
-use Rattle.hplan_text.specs.Walks.{FindsNode, AreOnce, has, HasReached, ids_of, Visits}
+use Rattle.hplan_text.specs.Marks.{among}
+use Rattle.hplan_text.specs.Walks.{AreOnce, HasReached, ids_of, Visits}
 use Rattle.hplan_text.specs.Printable.{line_id, node_id, task_ids, listed_by, all_ids, IsSoundHPlan, ReadHPlansAreSound}
+use Rattle.hplan_text.proofs.Indexed.{node-of}
 use Rattle.hplan_text.proofs.Judged.{nodes-once}
 use Rattle.hplan_text.proofs.LeastFound.{has-left, has-right}
-use Rattle.hplan_text.proofs.Numbered.{eq-at}
 use Rattle.hplan_text.proofs.Walked.{rest, smaller, IsOnTheWay, at-first, way-next, at-last}
 
 -- how often a number stands in a list
@@ -169,56 +168,42 @@ among-has n (k ∷ ks) e = by (eqb_tells k n) (among-has n ks)
 
 -- what the root reaches can be told
 
-find : (nodes : List HNode) (n : ℕ) → (o : Option HNode) × FindsNode nodes n o
-find [] n = (None, λ x h q. h)
-find (x ∷ xs) n = by (eqb_tells x.line.id n) (find xs n)
-  where
-    by : (((x.line.id == n) ≡ true) × (x.line.id ≡ n)) ⊎ (((x.line.id == n) ≡ false) × (x.line.id ≡ n → ⊥)) → (o : Option HNode) × FindsNode xs n o → (o : Option HNode) × FindsNode (x ∷ xs) n o
-    by (inl (t, e)) r = (Some x, (inl refl, e))
-    by (inr (t, e)) (None, f) = (None, none)
-      where
-        none : (y : HNode) → Has (x ∷ xs) y → y.line.id ≡ n → ⊥
-        none y (inl p) q = e (ap node_id p ∙ q)
-        none y (inr h) q = f y h q
-    by (inr (t, e)) (Some y, f) = (Some y, (inr f.0, f.1))
-
 last-of : (n : ℕ) (ns : List ℕ) → (todo : List ℕ) × (id : ℕ) × (n ∷ ns ≡ todo ++ id ∷ [])
 last-of n [] = ([], n, refl)
 last-of n (k ∷ ks) = let r = last-of k ks in (n ∷ r.0, r.1, ap (λ z. n ∷ z) r.2)
 
-abbrev with_id : ℕ → BTreeSet ℕ → BTreeSet ℕ
-with_id id s = record { keys = id ∷ s.keys }
+-- each id counts as known
+abbrev any : ℕ → Bool
+any n = true
 
-taken : (id : ℕ) (s : BTreeSet ℕ) (n : ℕ) → has (with_id id s) n ≡ cond (id == n) true (has s n)
-taken id s n = by (eqb_tells id n)
+taken : (id : ℕ) (s : List ℕ) (n : ℕ) → among (id ∷ s) n ≡ cond (id == n) true (among s n)
+taken id s n = by (id == n)
   where
-    by : (((id == n) ≡ true) × (id ≡ n)) ⊎ (((id == n) ≡ false) × (id ≡ n → ⊥)) → has (with_id id s) n ≡ cond (id == n) true (has s n)
-    by (inl (t, e)) = ap (λ b. b || has s n) (eq-at n id ∙ eq-eqb n id (sym e)) ∙ ap (λ b. cond b true (has s n)) (sym t)
-    by (inr (t, e)) = ap (λ b. b || has s n) (eq-at n id ∙ ne_eqb n id (λ q. e (sym q))) ∙ ap (λ b. cond b true (has s n)) (sym t)
+    by : (b : Bool) → (b || among s n) ≡ cond b true (among s n)
+    by true = refl
+    by false = refl
 
-walk : (most : ℕ) (plan : HPlan) → AreOnce plan.nodes → (s : BTreeSet ℕ) (todo : List ℕ) → IsOnTheWay plan s todo → length todo + rest s plan.nodes ≤ most → (t : BTreeSet ℕ) × HasReached plan t
-walk most plan once s [] w l = (s, at-last plan s w)
+walk : (most : ℕ) (plan : HPlan) → AreOnce plan.nodes → (s : List ℕ) (todo : List ℕ) → IsOnTheWay plan any (among s) todo → length todo + rest (among s) plan.nodes ≤ most → (t : List ℕ) × HasReached plan any (among t)
+walk most plan once s [] w l = (s, at-last plan any (among s) (λ x h. refl) w)
 walk zero plan once s (n ∷ ns) w l = absurd (omega arith)
 walk (suc most) plan once s (n ∷ ns) w l =
     let c = last-of n ns in
-    let o = find plan.nodes c.1 in
-    let more : List ℕ = cond (has s c.1) c.0 (c.0 ++ ids_of o.0) in
-    let v : Visits plan c.1 s c.0 (with_id c.1 s) more = record { node = o.0; finds = o.1; taken = taken c.1 s; todo_is = refl } in
-    let less = smaller plan c.1 s (with_id c.1 s) (n ∷ ns) c.0 more c.2 v in
-    walk most plan once (with_id c.1 s) more (way-next plan c.1 s (with_id c.1 s) (n ∷ ns) c.0 more once c.2 v w) (omega (arith, l, less))
+    let o = node-of plan.nodes c.1 in
+    let now : List ℕ = c.1 ∷ s in
+    let more : List ℕ = cond (among s c.1) c.0 (c.0 ++ ids_of o.0) in
+    let v : Visits plan any c.1 (among s) c.0 (among now) more = record { node = o.0; finds = o.1; taken = λ n k. taken c.1 s n; todo_is = refl } in
+    let less = smaller plan any c.1 (among s) (among now) (n ∷ ns) c.0 more (λ x h. refl) (λ n k. refl) (λ n k. refl) c.2 v in
+    walk most plan once now more (way-next plan any c.1 (among s) (among now) (n ∷ ns) c.0 more (λ n k. refl) (λ n k. refl) once c.2 v w) (omega (arith, l, less))
 
 reaches : (plan : HPlan) → AreOnce plan.nodes → (n : ℕ) → ((Reaches plan n → ⊥) → ⊥) → Reaches plan n
-reaches plan once n otherwise = by (has t.0 n) refl
+reaches plan once n otherwise = by (among t.0 n) refl
   where
-    none : BTreeSet ℕ
-    none = record { keys = [] }
+    t : (t : List ℕ) × HasReached plan any (among t)
+    t = walk (length plan.root + rest (among []) plan.nodes) plan once [] plan.root (at-first plan any (among []) (λ n. refl)) (omega arith)
 
-    t : (t : BTreeSet ℕ) × HasReached plan t
-    t = walk (length plan.root + rest none plan.nodes) plan once none plan.root (at-first plan none refl) (omega arith)
-
-    by : (b : Bool) → has t.0 n ≡ b → Reaches plan n
-    by true e = (t.1 n).0 e
-    by false e = absurd (otherwise (λ r. (let f = (t.1 n).1 r in cc)))
+    by : (b : Bool) → among t.0 n ≡ b → Reaches plan n
+    by true e = (t.1 n refl).0 e
+    by false e = absurd (otherwise (λ r. (let f = (t.1 n refl).1 r in cc)))
 
 none-has : {X : Type 0} (xs : List X) → ((x : X) → Has xs x → ⊥) → xs ≡ []
 none-has [] lacks = refl

@@ -12,6 +12,9 @@ use Rattle.hplan_text.specs.HPlanFaults.{is_among}
 abbrev pub HaveIds : List ℕ → List Mention → Type 0
 HaveIds ids ms = (n : ℕ) → is_among n ids ≡ is_among n (map number ms)
 
+abbrev pub among : List ℕ → ℕ → Bool
+among ids n = is_among n ids
+
 -- an id stands at this place, or nowhere
 abbrev pub IsPlaceOf : List ℕ → ℕ → Option ℕ → Type 0
 IsPlaceOf ids n None = is_among n ids ≡ false

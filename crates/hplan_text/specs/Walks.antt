@@ -4,12 +4,11 @@ use Rattle.std.specs.Prelude.{ℕ, ◌≡◌, ◌==◌, ◌<◌, Bool, true, con
 use Rattle.plan_texts.specs.Types.{Has}
 use Rattle.hplan_text.specs.declared.values.HNode.{HNode}
 use Rattle.hplan_text.specs.declared.values.HPlan.{HPlan}
-use Rattle.hplan_text.specs.HPlanFaults.{Reaches, is_among}
-use Rattle.hplan_text.specs.Marks.{has}
+use Rattle.hplan_text.specs.HPlanFaults.{Reaches}
 
--- the nodes have these ids
-abbrev pub AreOwned : List ℕ → List HNode → Type 0
-AreOwned ids nodes = (x : HNode) → Has nodes x → is_among x.line.id ids ≡ true
+-- the ids of the nodes are known
+abbrev pub AreOwned : (known : ℕ → Bool) → List HNode → Type 0
+AreOwned known nodes = (x : HNode) → Has nodes x → known x.line.id ≡ true
 
 abbrev pub IsAt : List HNode → ℕ → ℕ → Type 0
 IsAt nodes n j = (x : HNode) × (slice_get nodes j ≡ Some x) × (x.line.id ≡ n)
@@ -28,18 +27,18 @@ FindsNode nodes n (Some x) = Has nodes x × (x.line.id ≡ n)
 abbrev pub AreOnce : List HNode → Type 0
 AreOnce nodes = (x y : HNode) → Has nodes x → Has nodes y → x.line.id ≡ y.line.id → x ≡ y
 
--- of these ids those are marked that the root reaches
-abbrev pub HasReached : HPlan → List ℕ → List Bool → Type 0
-HasReached plan ids marks = (n : ℕ) → is_among n ids ≡ true → (has ids marks n ≡ true → Reaches plan n) × (Reaches plan n → has ids marks n ≡ true)
+-- of the known ids those are marked that the root reaches
+abbrev pub HasReached : HPlan → (known marked : ℕ → Bool) → Type 0
+HasReached plan known marked = (n : ℕ) → known n ≡ true → (marked n ≡ true → Reaches plan n) × (Reaches plan n → marked n ≡ true)
 
 -- the ids of the node, where there is one
 abbrev pub ids_of : Option HNode → List ℕ
 ids_of None = []
 ids_of (Some x) = x.ids
 
--- an id is taken: it is marked now, if it is one of these, and what its node lists is to be taken, if it wasn't marked before
-pub record Visits (plan : HPlan) (ids : List ℕ) (id : ℕ) (old : List Bool) (todo : List ℕ) (new : List Bool) (more : List ℕ) : Type 0 where
+-- an id is taken: it is marked now, if it is known, and what its node lists is to be taken, if it wasn't marked before
+pub record Visits (plan : HPlan) (known : ℕ → Bool) (id : ℕ) (old : ℕ → Bool) (todo : List ℕ) (new : ℕ → Bool) (more : List ℕ) : Type 0 where
   pub node : Option HNode
   pub finds : FindsNode plan.nodes id node
-  pub taken : (n : ℕ) → is_among n ids ≡ true → has ids new n ≡ cond (id == n) true (has ids old n)
-  pub todo_is : more ≡ cond (has ids old id) todo (todo ++ ids_of node)
+  pub taken : (n : ℕ) → known n ≡ true → new n ≡ cond (id == n) true (old n)
+  pub todo_is : more ≡ cond (old id) todo (todo ++ ids_of node)

@@ -108,7 +108,7 @@ fn fault_of(taken: Taken, at: u32, unknown: u16, again: u16) -> Option<Found>
     }
 }
 
-// The least fault of mentions: with the first code at an id that is none of these, with the second at one that was mentioned before.
+// The least fault of mentions: with the first code where an id is none of these, with the second where it was mentioned before.
 fn least_wrong(
     alloc: Global,
     ids: &[u64],
@@ -118,7 +118,8 @@ fn least_wrong(
 ) -> Result<Option<Found>, Memory>
     requires rises { IsStrictlyIncreasing ids.now }
     requires codes { unknown ≤ again }
-    ensures least { IfOk result (λ found. IsLeastOf found (faults_at unknown (others ids.now mentions.now) ++ faults_at again (repeats mentions.now))) }
+    ensures least { IfOk result (λ found. IsLeastOf found
+        (faults_at unknown (others ids.now mentions.now) ++ faults_at again (repeats mentions.now))) }
 {
     let mut marks = vec![in alloc; false; ids.len()]?;
     let mut found = None;
@@ -146,7 +147,12 @@ pub(crate) fn least_id(
 }
 
 /// The least fault with this code at an id that isn't marked.
-pub(crate) fn least_other(ids: &[u64], marks: &[bool], mentions: &[Mention], code: u16) -> Option<Found>
+pub(crate) fn least_other(
+    ids: &[u64],
+    marks: &[bool],
+    mentions: &[Mention],
+    code: u16,
+) -> Option<Found>
     requires rises { IsStrictlyIncreasing ids.now }
     requires sized { length marks.now ≡ length ids.now }
     ensures least { IsLeastOf result (faults_at code (others (chosen ids.now marks.now) mentions.now)) }

@@ -1,5 +1,6 @@
 ghost use Rattle.std.specs.Prelude.{◌≡◌, length, IfOk, OnOk};
 ghost use Rattle.std.specs.List.Sorted.{IsStrictlyIncreasing};
+ghost use Rattle.hplan_text.specs.Marks.{among, has};
 ghost use Rattle.hplan_text.specs.Walks.{AreOwned, IsIndex, AreOnce, HasReached, Visits};
 
 use crate::ids::{Taken, place_of, take};
@@ -31,10 +32,11 @@ fn visit(
     todo: &mut Vec<u64>,
 ) -> Result<(), Memory>
     requires rises { IsStrictlyIncreasing ids.now }
-    requires owned { AreOwned ids.now plan.now.nodes }
+    requires owned { AreOwned (among ids.now) plan.now.nodes }
     requires index { IsIndex ids.now plan.now.nodes index.now }
     requires sized { length reached.old ≡ length ids.now }
-    ensures visited { OnOk result (Visits plan.now ids.now id reached.old todo.old.items reached.new todo.new.items) }
+    ensures visited { OnOk result (Visits plan.now (among ids.now) id
+        (has ids.now reached.old) todo.old.items (has ids.now reached.new) todo.new.items) }
 {
     if let Taken::New(place) = take(ids, id, reached) {
         if let Some(node) = plan.nodes.get(index[place]) {
@@ -48,9 +50,9 @@ fn visit(
 pub(crate) fn reached(alloc: Global, plan: &HPlan, ids: &[u64]) -> Result<Vec<bool>, Memory>
     requires once { AreOnce plan.now.nodes }
     requires rises { IsStrictlyIncreasing ids.now }
-    requires owned { AreOwned ids.now plan.now.nodes }
+    requires owned { AreOwned (among ids.now) plan.now.nodes }
     ensures sized { IfOk result (λ reached. length reached.items ≡ length ids.now) }
-    ensures reached { IfOk result (λ reached. HasReached plan.now ids.now reached.items) }
+    ensures reached { IfOk result (λ reached. HasReached plan.now (among ids.now) (has ids.now reached.items)) }
 {
     let index = index_of(alloc, ids, plan.nodes.as_slice())?;
     let mut reached = vec![in alloc; false; ids.len()]?;

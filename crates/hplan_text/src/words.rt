@@ -2,7 +2,7 @@ ghost use Rattle.std.specs.Prelude.{◌≡◌, ◌≤◌, ◌^◌, true, IfOk, M
 ghost use Rattle.std.specs.Char.{is_ascii_digit};
 ghost use Rattle.std.specs.List.{list_all};
 ghost use Rattle.std.specs.Str.Parse.{digits_value};
-ghost use Rattle.htn_base.specs.Words.{folded};
+ghost use Rattle.htn_base.specs.Words.{folded, IsFolded};
 ghost use Rattle.hplan_text.specs.Rows as spec;
 ghost use Rattle.hplan_text.specs.Scanning.{TellsId};
 
@@ -71,10 +71,20 @@ pub(crate) fn is_root(word: &[u8]) -> bool
     word.eq_ignore_ascii_case(b"root")
 }
 
+// Whether the word has no upper-case letter.
+fn is_folded(word: &[u8]) -> bool
+    ensures { result ≡ true → IsFolded word.now }
+{
+    !word.iter().any(u8::is_ascii_uppercase)
+}
+
 /// The word in lower case.
 pub(crate) fn in_lower_case(alloc: Global, word: &[u8]) -> Result<Text, Memory>
     ensures { IfOk result (λ text. text ≡ folded word.now) }
 {
+    if is_folded(word) {
+        return Text::from_slice(alloc, word);
+    }
     let mut text = Text::new(alloc);
     text.reserve(word.len())?;
     for byte in word {

@@ -1,8 +1,5 @@
-use Rattle.std.proofs.Common.{ℕ, ◌≡◌, ◌≤◌, ◌<◌, List, length, slice_index, Result, Ok, Err, MatchResult, false, subst, arith}
-use Rattle.std.specs.List.Sorted.{IsStrictlyIncreasing, IsBinarySearchResult}
-use Rattle.std.specs.Ordering.{nat_cmp}
+use Rattle.std.proofs.Common.{ℕ, ◌≡◌, ◌≤◌, ◌<◌, length, slice_index, MatchResult, subst}
 use Rattle.std.proofs.lemmas.List.Sorted.{searched}
-use Rattle.hplan_text.specs.HPlanFaults.{is_among}
 use Rattle.hplan_text.proofs.Marked.{found-nowhere, rises-on}
 use Rattle.hplan_text.proofs.ids.place_of.Goals as goal
 

@@ -1,8 +1,7 @@
-use Rattle.std.proofs.Common.{◌≡◌, ◌∙◌, [], Some, ap₂, subst}
+use Rattle.std.proofs.Common.{◌≡◌, [], subst}
 use Rattle.hplan_text.specs.HPlanFaults.{id_faults_of, faults_at, others}
 use Rattle.hplan_text.specs.LeastOf.{IsLeastOf}
 use Rattle.hplan_text.specs.Marks.{chosen}
-use Rattle.hplan_text.specs.Walks.{HasReached}
 use Rattle.hplan_text.proofs.Judged.{owned-in, once-in, judged-tree}
 use Rattle.hplan_text.proofs.judging.least_of_ids.Goals as goal
 
@@ -24,5 +23,5 @@ returns c =
     let none-own = subst (λ z. id_faults_of z d.listed.items ≡ []) c.as_slice-own.ensures.value (subst (λ z. id_faults_of c.as_slice-own.result.now z ≡ []) c.as_slice.ensures.value none) in
     let marks = c.in_ok-reached.reached.items in
     let least = subst (λ z. IsLeastOf found (faults_at 36 (others (chosen ids z) d.own.items))) c.deref.ensures.value
-        (subst (λ z. IsLeastOf found (faults_at 36 (others (chosen ids c.deref.result.now) z))) c.as_slice-own.ensures.value c.least_other.ensures.least) in
+    (subst (λ z. IsLeastOf found (faults_at 36 (others (chosen ids c.deref.result.now) z))) c.as_slice-own.ensures.value c.least_other.ensures.least) in
     record { judged = λ ls h. judged-tree ls d h ids c.requires.same marks found none-own c.in_ok-reached.ensures.reached least }

@@ -1,5 +1,5 @@
-use Rattle.std.proofs.Common.{ℕ, Vec, Global, ◌+◌, ◌≡◌, ◌∙◌, length, replicate, sym, subst, ap}
-use Rattle.hplan_text.proofs.Indexed.{IsIndexTo, no-index, index-same, index-more, index-whole}
+use Rattle.std.proofs.Common.{ℕ, Vec, Global, ◌+◌, sym, subst, ap}
+use Rattle.hplan_text.proofs.Indexed.{IsIndexTo, index-same, index-more}
 use Rattle.hplan_text.proofs.reaching.index_of.Goals as goal
 use Rattle.hplan_text.proofs.reaching.index_of.Goals.{in-Some, in_default}
 

@@ -1,6 +1,6 @@
-use Rattle.std.proofs.Common.{◌≡◌, ◌∙◌, ◌++◌, Option, Some, None, Bool, false, true, sym, ap, subst}
+use Rattle.std.proofs.Common.{◌∙◌, ◌++◌, Some, None, sym, ap}
 use Rattle.std.proofs.lemmas.List.{append-nil}
-use Rattle.hplan_text.proofs.Indexed.{finds, finds-none, finds-unknown}
+use Rattle.hplan_text.proofs.Indexed.{finds, finds-none}
 use Rattle.hplan_text.proofs.Marked.{marked-now}
 use Rattle.hplan_text.proofs.Walked.{visits-new, visits-same}
 use Rattle.hplan_text.proofs.reaching.visit.Goals as goal
