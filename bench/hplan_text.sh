@@ -9,7 +9,7 @@
 #
 # Instructions a byte, of the whole: tasks in order 76.7, tasks mixed 79.8, lines in order 88.3, lines mixed 99.5; of an eighth 83.9, 86.6, 94.1
 # and 104.8. The most memory: 7.4, 7.4, 10.8 and 10.8 times the text. Milliseconds at loads of 13 to 16: 728, 1,660, 1,010 and 958. Of the
-# instructions of tasks in order a third is the system's malloc and free, and a fifth is next_line. Before ids stood in one ascending list
+# instructions of tasks in order two fifths are the system's malloc and free, and a fifth is next_line. Before ids stood in one ascending list
 # with marks, and words without upper-case letters were copied whole: 144.9, 140.2, 308.2 and 274.8; 144.9, 134.4, 304.0 and 273.7; 7.7, 7.5,
 # 11.2 and 10.7 times the text.
 set -euo pipefail
