@@ -1,0 +1,13 @@
+pub mod Nodes
+pub mod Listing
+pub mod Counting
+pub mod Neighbours
+pub mod Waiting
+pub mod Lowering
+pub mod Settings
+pub mod Keeping
+pub mod Telling
+pub mod Taking
+pub mod Starting
+pub mod Sound
+pub mod Ordering

@@ -1,0 +1,5 @@
+pub mod Orders
+pub mod Children
+pub mod Given
+pub mod Queue
+pub mod Kept

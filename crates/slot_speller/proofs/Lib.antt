@@ -1,0 +1,6 @@
+pub mod Widths
+pub mod ChildRows
+pub mod Keeping
+pub mod Settings
+pub mod StepLaws
+pub mod TheSpelling

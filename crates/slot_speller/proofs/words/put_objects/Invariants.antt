@@ -1,0 +1,6 @@
+use Rattle.std.proofs.Common.{◌≡◌, ◌++◌, map, take}
+use Rattle.plan_model.specs.plan_meaning.SpelledPlan.{object_word}
+use Rattle.slot_speller.proofs.words.put_objects.Given as goal
+
+abbrev pub invariant-loop-number : goal.invariant-loop-number
+invariant-loop-number l = l.args ≡ l.initial.args ++ map (object_word l.c) (take l.number-index l.objects)
