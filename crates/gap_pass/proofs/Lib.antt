@@ -1,0 +1,16 @@
+mod Listing
+mod Entering
+mod Touring
+mod Lines
+mod Grown
+mod Steps
+mod TourLaws
+mod Leasts
+mod Capped
+mod Followers
+mod Sound
+mod Places
+mod Passing
+mod Kept
+mod Following
+mod PassParts

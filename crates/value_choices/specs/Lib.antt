@@ -1,0 +1,4 @@
+pub mod Choices
+pub mod Meeting
+pub mod Settled
+pub mod Ranges
