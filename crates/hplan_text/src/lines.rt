@@ -2,6 +2,7 @@ ghost use Rattle.std.specs.Prelude.{◌≡◌, ◌+◌, ◌<◌, ◌≤◌, [], 
 ghost use Rattle.std.specs.List.{cons_option, slice_range};
 ghost use Rattle.std.specs.Str.{bytes_eq};
 ghost use Rattle.std.specs.Str.Lines.{strip_carriage_return};
+ghost use Rattle.htn_base.specs.Limits.{longest_input};
 ghost use Rattle.hplan_text.specs.Lines as spec;
 ghost use Rattle.hplan_text.specs.Lines.{is_line_end, piece, said, words_from, lines_from, some_line};
 ghost use Rattle.hplan_text.specs.Scanning.{as_said, gap, is_only, words_begin, words_end};
@@ -70,7 +71,7 @@ fn keep<'t>(
     end: usize,
     words: &mut Vec<Word<'t>>,
 ) -> Result<(), Memory>
-    requires short { at + length line.now ≤ 16777216 }
+    requires short { at + length line.now ≤ longest_input }
     requires order { from ≤ end }
     requires within { end ≤ length line.now }
     ensures kept { OnOk result (map as_said words.new.items
@@ -88,7 +89,7 @@ fn keep<'t>(
 
 // The words of a line that stands at a place of the text.
 fn words_of<'t>(line: &'t [u8], at: usize, words: &mut Vec<Word<'t>>) -> Result<(), Memory>
-    requires short { at + length line.now ≤ 16777216 }
+    requires short { at + length line.now ≤ longest_input }
     ensures words { OnOk result (map as_said words.new.items ≡ words_from at line.now) }
 {
     words.clear();
@@ -107,7 +108,7 @@ pub(crate) fn next_line<'t>(
     at: usize,
     words: &mut Vec<Word<'t>>,
 ) -> Result<usize, Memory>
-    requires short { length text.now ≤ 16777216 }
+    requires short { length text.now ≤ longest_input }
     requires within { at ≤ length text.now }
     ensures lines { IfOk result (λ behind. lines_from at (drop at text.now)
         ≡ cons_option (some_line (map as_said words.new.items)) (lines_from behind (drop behind text.now))) }

@@ -1,4 +1,5 @@
 ghost use Rattle.std.specs.Prelude.{◌≡◌, [], ◌≤◌, drop, map, length, None, List, IfOk, IfErr, MatchOption};
+ghost use Rattle.htn_base.specs.Limits.{longest_input};
 ghost use Rattle.hplan_text.specs.Lines.{Line, lines_from, up_to_end, marked};
 ghost use Rattle.hplan_text.specs.Drafts.{IsDraft, Drafts, FirstAt, Judges, RefusedBy, between};
 ghost use Rattle.hplan_text.specs.Scanning.{as_said};
@@ -17,7 +18,7 @@ const NO_MARKER: u16 = 30;
 
 // Goes behind the first line that begins a plan. `None` where there is none.
 fn begin<'t>(text: &'t [u8], words: &mut Vec<Word<'t>>) -> Result<Option<usize>, Memory>
-    requires short { length text.now ≤ 16777216 }
+    requires short { length text.now ≤ longest_input }
     ensures begin { IfOk result (λ found. MatchOption found (marked text.now ≡ None)
         (λ at. marked text.now ≡ up_to_end (lines_from at (drop at text.now)))) }
 {
@@ -39,7 +40,7 @@ fn draft_lines<'t>(
     words: &mut Vec<Word<'t>>,
     draft: &mut Draft,
 ) -> Result<Option<u32>, Memory>
-    requires short { length text.now ≤ 16777216 }
+    requires short { length text.now ≤ longest_input }
     requires none { IsDraft [] draft.old }
     ensures lines { IfOk result (Drafts (up_to_end (lines_from from (drop from text.now))) draft.new) }
 {
@@ -66,7 +67,7 @@ fn first_place(words: &[Word<'_>]) -> Option<u32>
 
 // Reads the lines between the markers; the place of the end line is given. `None` where either marker isn't there.
 fn drafted(alloc: Global, text: &[u8], draft: &mut Draft) -> Result<Option<u32>, Memory>
-    requires short { length text.now ≤ 16777216 }
+    requires short { length text.now ≤ longest_input }
     requires none { IsDraft [] draft.old }
     ensures lines { IfOk result (Drafts (marked text.now) draft.new) }
 {
@@ -104,7 +105,7 @@ fn judged(alloc: Global, draft: Draft, end: u32, file: u8) -> Result<HPlan, Read
 /// text among the command's inputs. `Bad` has the text's least fault: of lines (30, 31, 35), and where there is none, of ids
 /// (32, 33, 34), and where there is none, the first line that `root` doesn't reach (36); of each kind by offset, then code.
 pub fn read(alloc: Global, bytes: &[u8], file: u8) -> Result<HPlan, ReadError>
-    requires short { length bytes.now ≤ 16777216 }
+    requires short { length bytes.now ≤ longest_input }
     ensures read { IfOk result (IsHPlanRead bytes.now) }
     ensures refused { IfErr result (RefusesHPlan file bytes.now) }
 {
