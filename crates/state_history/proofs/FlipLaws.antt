@@ -1,5 +1,5 @@
 -- The gaps that are kept for atoms, once those of one atom are changed.
-use Rattle.std.proofs.Common.{ℕ, ◌≡◌, ◌≢◌, ◌<◌, ◌≤◌, ◌⊎◌, ◌↔◌, inl, inr, Bool, true, false, IsTrue, refl, ap, sym, subst, ◌∙◌, true≢false, arith}
+use Rattle.std.proofs.Common.{ℕ, ◌≡◌, ◌≢◌, ◌<◌, ◌≤◌, ◌⊎◌, ◌↔◌, inl, inr, Bool, true, false, IsTrue, ap, sym, subst, ◌∙◌, true≢false, arith}
 use Rattle.std.specs.Prelude.{Result, Ok, Err, OnOk, OnErr}
 use Rattle.std.proofs.lemmas.Bool.{cases_eq}
 use Rattle.plan_model.specs.declared.terms.GroundAtom.{GroundAtom}
@@ -68,10 +68,6 @@ set-more old mid new P Q a truth more s t = record {
         → (g : GroundAtom) → states new old.last g ↔ changed truth (states old old.last) Q g
     by true h k g = put-then (more g) (h g) (k g)
     by false h k g = taken-then (more g) (h g) (k g)
-
-pub set-none : (old : Flips) (truth : Bool) (P : GroundAtom → Type 0) → ((g : GroundAtom) → P g → ⊥) → AreSet old P truth old
-set-none old true P n = record { last = refl; here = λ g. (λ x. inl x, λ x. elim x [ inl y ↦ y | inr y ↦ absurd (n g y) ]); before = λ j g m. refl }
-set-none old false P n = record { last = refl; here = λ g. (λ x. (x, n g), λ x. x.0); before = λ j g m. refl }
 
 -- what follows from each outcome
 pub in-either : {T E P Q X : Type 0} (r : Result T E) → OnOk r P → OnErr r Q → (P → X) → (Q → X) → X

@@ -1,5 +1,5 @@
 -- The first values that meet what a method asks, as a choice comes to them.
-use Rattle.std.proofs.Common.{ℕ, ◌≡◌, ◌⊎◌, ◌↔◌, inl, inr, Bool, true, false, IsTrue, List, length, Option, Some, None, refl, ap, sym, subst, ◌∙◌, Contains, arith}
+use Rattle.std.proofs.Common.{ℕ, ◌≡◌, ◌↔◌, inl, inr, List, length, Option, sym, subst, ◌∙◌}
 use Rattle.plan_model.specs.declared.networks.Constraint.{Constraint}
 use Rattle.plan_model.specs.declared.terms.Param.{Param}
 use Rattle.value_choices.specs.declared.choice.Choice.{Choice}
@@ -24,7 +24,8 @@ module _ (InType : ℕ → ℕ → Type 0) (params : List Param) (constraints : 
   pub chosen_can : (choice : Choice) → IsComing choice → P choice.values.items
   chosen_can choice i = (i.over.each choice.values.items).0 i.over.is.among
 
-  pub chosen_first : (choice : Choice) → IsComing choice → AreMet constraints choice.values.items → IsFirst (CanMeet InType params constraints known) choice.values.items
+  pub chosen_first : (choice : Choice) → IsComing choice → AreMet constraints choice.values.items → IsFirst
+      (CanMeet InType params constraints known) choice.values.items
   chosen_first choice i m = record {
     is = record { can = chosen_can choice i; meets = m };
     none_before = λ others p q. i.none others p.can p.meets q;
@@ -51,5 +52,6 @@ module _ (InType : ℕ → ℕ → Type 0) (params : List Param) (constraints : 
       none = λ others p m q. n.none_between others (among others p) (behind others p m) q;
     }
 
-    pub never : IsLast (AreAmong choice.ranges.items) choice.values.items → (values : List ℕ) → CanMeet InType params constraints known values → ⊥
+    pub never : IsLast (AreAmong choice.ranges.items) choice.values.items → (values : List ℕ)
+        → CanMeet InType params constraints known values → ⊥
     never last values p = last values (among values p.can) (behind values p.can p.meets)

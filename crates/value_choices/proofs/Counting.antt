@@ -26,7 +26,8 @@ module _ (p q : ℕ → Bool) (to : (z : ℕ) → p z ≡ true → q z ≡ true)
     | inr r ↦ there (p x) (q x) (to x) (count_less xs y r f t)
   ]
     where
-      here : (a b : Bool) → a ≡ false → b ≡ true → length (cond a (x ∷ filter p xs) (filter p xs)) < length (cond b (x ∷ filter q xs) (filter q xs))
+      here : (a b : Bool) → a ≡ false → b ≡ true → length (cond a (x ∷ filter p xs) (filter p xs)) < length
+          (cond b (x ∷ filter q xs) (filter q xs))
       here true b e g = absurd (true≢false e)
       here false true e g = let l = count_le xs in omega arith
       here false false e g = absurd (true≢false (sym g))
@@ -51,7 +52,8 @@ not_less x y l = le-ltb y x l
 
 above : (xs : List ℕ) (x y : ℕ) → x < y → Contains xs y → length (filter (λ z. ltb y z) xs) < length (filter (λ z. ltb x z) xs)
 above xs x y l c =
-    count_less (λ z. ltb y z) (λ z. ltb x z) (λ z t. lt-ltb x z (let m = ltb-true y z t in omega arith)) xs y c (not_less y y (omega arith)) (lt-ltb x y l)
+    count_less (λ z. ltb y z) (λ z. ltb x z) (λ z t. lt-ltb x z (let m = ltb-true y z t in omega arith)) xs y c
+    (not_less y y (omega arith)) (lt-ltb x y l)
 
 itself : (xs : List ℕ) (x : ℕ) → Contains xs x → length (filter (λ z. ltb x z) xs) < length xs
 itself xs x c =
@@ -71,7 +73,8 @@ below_many (r ∷ rs) [] a = absurd (let e = a.as_many in omega arith)
 below_many (r ∷ rs) (x ∷ xs) a =
     let l = below_many rs xs (among_tail r rs x xs a) in
     let n = itself (options r) x (among_head r rs x xs a) in
-    let m : (length (filter (λ z. ltb x z) (options r)) + 1) * many rs ≤ length (options r) * many rs = mul-le-mul_right (many rs) (omega arith) in
+    let m : (length (filter (λ z. ltb x z) (options r)) + 1) * many rs ≤ length (options r) * many rs = mul-le-mul_right (many rs)
+    (omega arith) in
     omega arith
 
 pub fewer_at : (k : ℕ) (rs : List Range) (xs ys : List ℕ) → AreAmong rs xs → AreAmong rs ys → k < length xs
@@ -82,12 +85,14 @@ fewer_at k (r ∷ rs) (x ∷ xs) [] a b l s m = absurd (let e = b.as_many in ome
 fewer_at zero (r ∷ rs) (x ∷ xs) (y ∷ ys) a b l s m =
     let n = below_many rs ys (among_tail r rs y ys b) in
     let o = above (options r) x y m (among_head r rs y ys b) in
-    let p : (length (filter (λ z. ltb y z) (options r)) + 1) * many rs ≤ length (filter (λ z. ltb x z) (options r)) * many rs = mul-le-mul_right (many rs) (omega arith) in
+    let p : (length (filter (λ z. ltb y z) (options r)) + 1) * many rs ≤ length
+    (filter (λ z. ltb x z) (options r)) * many rs = mul-le-mul_right (many rs) (omega arith) in
     omega arith
 fewer_at (suc k) (r ∷ rs) (x ∷ xs) (y ∷ ys) a b l s m =
     let e : x ≡ y = s 0 (omega arith) in
     let n = fewer_at k rs xs ys (among_tail r rs x xs a) (among_tail r rs y ys b) (omega arith) (λ i o. s (suc i) (omega arith)) m in
-    let f : length (filter (λ z. ltb x z) (options r)) * many rs ≡ length (filter (λ z. ltb y z) (options r)) * many rs = ap (λ w. length (filter (λ z. ltb w z) (options r)) * many rs) e in
+    let f : length (filter (λ z. ltb x z) (options r)) * many rs ≡ length (filter (λ z. ltb y z) (options r)) * many rs = ap
+    (λ w. length (filter (λ z. ltb w z) (options r)) * many rs) e in
     omega arith
 
 pub fewer : (rs : List Range) (xs ys : List ℕ) → AreAmong rs xs → AreAmong rs ys → Precedes xs ys → left_behind rs ys < left_behind rs xs

@@ -32,7 +32,8 @@ one_from x low l = record { is = (0, omega arith, refl); from = l; least = λ y 
 pub one_none : (x low : ℕ) → x < low → IsTheLeastFrom (x ∷ []) low None
 one_none x low l = λ y c m. (let e = one_is x y c in omega arith)
 
-module _ (xs : List ℕ) (low i : ℕ) (cut : IsPartitionPoint (λ y. ltb y low ≡ true) (λ y. ltb y low ≡ false) xs i) (up : IsStrictlyIncreasing xs) where
+module _ (xs : List ℕ) (low i : ℕ) (cut : IsPartitionPoint (λ y. ltb y low ≡ true) (λ y. ltb y low ≡ false) xs i)
+    (up : IsStrictlyIncreasing xs) where
   before : (k y : ℕ) → k < i → get_or xs k y ≡ y → low ≤ y → ⊥
   before k y l e m =
       let a = cut.0 k y (omega arith) l in

@@ -32,7 +32,8 @@ length_push {A = A} xs new x e = ap length e ∙ go xs
     go [] = refl
     go (y ∷ xs) = let f = go xs in omega arith
 
-got_either : {A : Type 0} (xs : List A) (y : A) (j : ℕ) (x : A) → slice_get (xs ++ y ∷ []) j ≡ Some x → (slice_get xs j ≡ Some x) ⊎ ((j ≡ length xs) × (y ≡ x))
+got_either : {A : Type 0} (xs : List A) (y : A) (j : ℕ) (x : A) → slice_get (xs ++ y ∷ []) j ≡ Some x → (slice_get xs j ≡ Some x) ⊎
+    ((j ≡ length xs) × (y ≡ x))
 got_either [] y zero x e = inr (refl, let f : y ≡ x = cc in f)
 got_either [] y (suc j) x e = absurd cc
 got_either (z ∷ xs) y zero x e = inl e
@@ -43,18 +44,23 @@ module _ (Is : ℕ → ℕ → Type 0) (params : List Param) (known : List (Opti
   ranges_none e = record { as_many = e; each = λ i p k r a b c. absurd cc }
 
   pub ranges_more : (i : ℕ) (d : Param) (o : Option ℕ) (ranges new : List Range) (r : Range) → i < length params → length ranges ≡ i
-      → IsRange Is (get_or params i d).ty (get_or known i o) r → new ≡ ranges ++ r ∷ [] → AreRanges Is params known ranges → AreRanges Is params known new
+      → IsRange Is (get_or params i d).ty (get_or known i o) r → new ≡ ranges ++ r ∷ [] → AreRanges Is params known ranges
+      → AreRanges Is params known new
   ranges_more i d o ranges new r l n is e a = record { as_many = a.as_many; each = λ j p k q x y z. each j p k q x y z }
     where
-      each : (j : ℕ) (p : Param) (k : Option ℕ) (q : Range) → slice_get params j ≡ Some p → slice_get known j ≡ Some k → slice_get new j ≡ Some q → IsRange Is p.ty k q
+      each : (j : ℕ) (p : Param) (k : Option ℕ) (q : Range) → slice_get params j ≡ Some p → slice_get known j ≡ Some k
+          → slice_get new j ≡ Some q → IsRange Is p.ty k q
       each j p k q x y z = elim (got_either ranges r j q (ap (λ z. slice_get z j) (sym e) ∙ z)) [
         | inl f ↦ a.each j p k q x y f
         | inr (f, g) ↦ (
             let m = a.as_many in
             let at : i ≡ j = omega arith in
-            let param : get_or params i d ≡ p = (let u : Some (get_or params i d) ≡ Some p = sym (slice_get-get_or params i d l) ∙ ap (slice_get params) at ∙ x in cc) in
-            let value : get_or known i o ≡ k = (let u : Some (get_or known i o) ≡ Some k = sym (slice_get-get_or known i o (omega arith)) ∙ ap (slice_get known) at ∙ y in cc) in
-            subst (λ (w : Range). IsRange Is p.ty k w) g (subst (λ w. IsRange Is p.ty w r) value (subst (λ (w : Param). IsRange Is w.ty (get_or known i o) r) param is)))
+            let param : get_or params i d ≡ p = (let u : Some (get_or params i d) ≡ Some p = sym (slice_get-get_or params i d l) ∙ ap
+            (slice_get params) at ∙ x in cc) in
+            let value : get_or known i o ≡ k = (let u : Some (get_or known i o) ≡ Some k = sym (slice_get-get_or known i o (omega arith))
+            ∙ ap (slice_get known) at ∙ y in cc) in
+            subst (λ (w : Range). IsRange Is p.ty k w) g (subst (λ w. IsRange Is p.ty w r) value
+            (subst (λ (w : Param). IsRange Is w.ty (get_or known i o) r) param is)))
       ]
 
   pub ranges_increasing : (ranges : List Range) → length ranges ≡ length params → AreRanges Is params known ranges → AreIncreasing ranges

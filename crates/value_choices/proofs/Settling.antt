@@ -1,5 +1,5 @@
 -- What is known of values that are asked for, one thing after another.
-use Rattle.std.proofs.Common.{ℕ, zero, suc, ◌≡◌, ◌+◌, ◌<◌, ◌≤◌, ◌↔◌, ◌==◌, eq-eqb, Bool, true, false, List, [], ◌∷◌, map, drop, length, get_or, set, Option, Some, None, slice_get, refl, ap, sym, subst, ◌∙◌, length-set, arith}
+use Rattle.std.proofs.Common.{ℕ, zero, suc, ◌≡◌, ◌+◌, ◌<◌, ◌≤◌, ◌↔◌, ◌==◌, eq-eqb, Bool, true, false, List, [], ◌∷◌, drop, length, get_or, set, Option, Some, None, slice_get, refl, ap, sym, subst, ◌∙◌, arith}
 use Rattle.std.proofs.lemmas.Bool.{eqb-true, true≢false}
 use Rattle.std.proofs.lemmas.Option.{slice_get-get_or}
 use Rattle.plan_model.specs.declared.terms.Term.{Term}
@@ -10,13 +10,15 @@ use Rattle.value_choices.proofs.Known.{agree_at, agree_set}
 
 -- of the values that agree with the old ones those of which P is true are those that agree with these, of which L is true
 abbrev pub IsLeft : (List ℕ → Type 0) → (List ℕ → Type 0) → List (Option ℕ) → List (Option ℕ) → Type 0
-IsLeft P L old now = (length now ≡ length old) × ((values : List ℕ) → length values ≡ length old → (Agree old values × P values) ↔ (Agree now values × L values))
+IsLeft P L old now = (length now ≡ length old) × ((values : List ℕ) → length values ≡ length old → (Agree old values × P values) ↔
+    (Agree now values × L values))
 
 module _ (P L Q N : List ℕ → Type 0) (step : (values : List ℕ) → L values ↔ (Q values × N values)) (old now new : List (Option ℕ)) where
   pub left_more : length new ≡ length now → IsLeft P L old now → Settles Q now new true → IsLeft P N old new
   left_more e h s = (e ∙ h.0, λ values l. go values (h.1 values l) (s values (l ∙ sym h.0)) (step values))
     where
-      go : (values : List ℕ) → (Agree old values × P values) ↔ (Agree now values × L values) → (Agree now values × Q values) ↔ Agree new values
+      go : (values : List ℕ) → (Agree old values × P values) ↔ (Agree now values × L values) → (Agree now values × Q values)
+          ↔ Agree new values
           → L values ↔ (Q values × N values) → (Agree old values × P values) ↔ (Agree new values × N values)
       go values a b s = (
         λ x. (let y = a.0 x in let z = s.0 y.1 in (b.0 (y.0, z.0), z.1)),
@@ -39,7 +41,8 @@ pub left_none : (P : List ℕ → Type 0) (old : List (Option ℕ)) → IsLeft P
 left_none P old = (refl, λ values l. (λ x. x, λ x. x))
 
 -- other words for what is asked
-pub settles_as : (P Q : List ℕ → Type 0) (old new : List (Option ℕ)) (found : Bool) → ((values : List ℕ) → P values ↔ Q values) → Settles P old new found
+pub settles_as : (P Q : List ℕ → Type 0) (old new : List (Option ℕ)) (found : Bool) → ((values : List ℕ) → P values ↔ Q values)
+    → Settles P old new found
     → Settles Q old new found
 settles_as P Q old new true same s = λ values l. (
   λ x. (s values l).0 (x.0, (same values).1 x.1),
@@ -49,7 +52,8 @@ settles_as P Q old new false same s = λ values l a q. s values l a ((same value
 
 -- an answer that is known beforehand
 pub settles_known : (P : List ℕ → Type 0) (old : List (Option ℕ)) (found : Bool)
-    → ((values : List ℕ) → length values ≡ length old → Agree old values → (found ≡ true → P values) × (P values → found ≡ true)) → Settles P old old found
+    → ((values : List ℕ) → length values ≡ length old → Agree old values → (found ≡ true → P values) × (P values → found ≡ true))
+    → Settles P old old found
 settles_known P old true h = λ values l. (λ x. x.0, λ a. (a, (h values l a).0 refl))
 settles_known P old false h = λ values l a p. absurd (true≢false (sym ((h values l a).1 p)))
 
@@ -75,8 +79,10 @@ module _ (terms : List Term) (objects : List ℕ) where
   abbrev pub TermIs : Term → ℕ → List ℕ → Type 0
   TermIs t o values = value_of values t ≡ o
 
-terms_step : (i : ℕ) (terms : List Term) (objects : List ℕ) (t : Term) (o : ℕ) → slice_get terms i ≡ Some t → slice_get objects i ≡ Some o → (values : List ℕ)
-    → (values_of values (drop i terms) ≡ drop i objects) ↔ ((value_of values t ≡ o) × (values_of values (drop (suc i) terms) ≡ drop (suc i) objects))
+terms_step : (i : ℕ) (terms : List Term) (objects : List ℕ) (t : Term) (o : ℕ) → slice_get terms i ≡ Some t → slice_get objects i ≡ Some o
+    → (values : List ℕ)
+    → (values_of values (drop i terms) ≡ drop i objects) ↔ ((value_of values t ≡ o) ×
+    (values_of values (drop (suc i) terms) ≡ drop (suc i) objects))
 terms_step i [] objects t o e f values = absurd cc
 terms_step i (s ∷ terms) [] t o e f values = absurd cc
 terms_step zero (s ∷ terms) (p ∷ objects) t o e f values =
@@ -89,11 +95,13 @@ terms_step zero (s ∷ terms) (p ∷ objects) t o e f values =
     ))
 terms_step (suc i) (s ∷ terms) (p ∷ objects) t o e f values = terms_step i terms objects t o e f values
 
-pub terms_more : (i : ℕ) (terms : List Term) (objects : List ℕ) (t : Term) (o : ℕ) → slice_get terms i ≡ Some t → slice_get objects i ≡ Some o → (values : List ℕ)
+pub terms_more : (i : ℕ) (terms : List Term) (objects : List ℕ) (t : Term) (o : ℕ) → slice_get terms i ≡ Some t
+    → slice_get objects i ≡ Some o → (values : List ℕ)
     → TermsLeft terms objects i values ↔ ((value_of values t ≡ o) × TermsLeft terms objects (i + 1) values)
 terms_more i terms objects t o e f values =
     let n : suc i ≡ i + 1 = omega arith in
-    subst (λ j. TermsLeft terms objects i values ↔ ((value_of values t ≡ o) × TermsLeft terms objects j values)) n (terms_step i terms objects t o e f values)
+    subst (λ j. TermsLeft terms objects i values ↔ ((value_of values t ≡ o) × TermsLeft terms objects j values)) n
+    (terms_step i terms objects t o e f values)
 
 pub terms_end : (i : ℕ) (terms : List Term) (objects : List ℕ) → length terms ≡ length objects → length terms ≤ i → (values : List ℕ)
     → TermsLeft terms objects i values

@@ -73,7 +73,8 @@ module _ (ranges : List Range) where
             | inr m ↦ (
                 let same : i ≡ k = omega arith in
                 let r_is : t.range ≡ r = (let f : Some t.range ≡ Some r = sym t.at ∙ ap (slice_get ranges) same ∙ e in cc) in
-                let is : Contains (options r) (get_or now i 0) = subst (λ (z : Range). Contains (options z) (get_or now i 0)) r_is t.next.is in
+                let is : Contains (options r) (get_or now i 0) = subst
+                (λ (z : Range). Contains (options z) (get_or now i 0)) r_is t.next.is in
                 subst (λ z. Contains (options r) (get_or now z 0)) same is)
           ]
         ]
@@ -110,7 +111,8 @@ module _ (ranges : List Range) where
                 | inl n ↦ (let e = q.same p.place n in omega arith)
                 | inr n ↦ (
                     let same : q.place ≡ p.place = omega arith in
-                    let u : get_or others p.place 0 < get_or now p.place 0 = subst (λ z. get_or others z 0 < get_or now z 0) same q.smaller in
+                    let u : get_or others p.place 0 < get_or now p.place 0 = subst
+                    (λ z. get_or others z 0 < get_or now z 0) same q.smaller in
                     omega arith)
               ])
         ]
@@ -174,7 +176,8 @@ module _ (ranges : List Range) where
     before k m = set_other k (λ e. (let f = ap (λ j. j) e in omega arith)) ∙ w.before k (omega arith)
 
     first : (k : ℕ) (q : Range) → i < k → slice_get ranges k ≡ Some q → IsLeastFrom (options q) 0 (get_or new k 0)
-    first k q m e = subst (IsLeastFrom (options q) 0) (sym (set_other k (λ f. (let g = ap (λ j. j) f in omega arith)))) (w.first k q (omega arith) e)
+    first k q m e = subst (IsLeastFrom (options q) 0) (sym (set_other k (λ f. (let g = ap (λ j. j) f in omega arith))))
+        (w.first k q (omega arith) e)
 
     -- the next one of its range stands there now
     pub turned : IsLeastFrom (options r) (get_or now i 0 + 1) y → AreTurned old new i
@@ -183,7 +186,8 @@ module _ (ranges : List Range) where
       before = before;
       range = r;
       at = at;
-      next = subst (λ z. IsLeastFrom (options r) z (get_or new i 0)) (ap (λ z. z + 1) (w.before i (omega arith))) (subst (IsLeastFrom (options r) (get_or now i 0 + 1)) (sym set_here) n);
+      next = subst (λ z. IsLeastFrom (options r) z (get_or new i 0)) (ap (λ z. z + 1) (w.before i (omega arith)))
+          (subst (IsLeastFrom (options r) (get_or now i 0 + 1)) (sym set_here) n);
       first = first;
       last = λ k q m e. w.last k q (omega arith) e;
     }
@@ -198,7 +202,8 @@ module _ (ranges : List Range) where
         | inr o ↦ (
             let same : i ≡ k = omega arith in
             let q_is : r ≡ q = (let g : Some r ≡ Some q = sym at ∙ ap (slice_get ranges) same ∙ e in cc) in
-            let here : IsLeastFrom (options q) 0 (get_or new i 0) = subst (λ z. IsLeastFrom (options q) 0 z) (sym set_here) (subst (λ (z : Range). IsLeastFrom (options z) 0 y) q_is f) in
+            let here : IsLeastFrom (options q) 0 (get_or new i 0) = subst (λ z. IsLeastFrom (options q) 0 z) (sym set_here)
+            (subst (λ (z : Range). IsLeastFrom (options z) 0 y) q_is f) in
             subst (λ z. IsLeastFrom (options q) 0 (get_or new z 0)) same here)
       ];
       last = λ k q m e. elim (cases_lt i k) [
@@ -206,7 +211,8 @@ module _ (ranges : List Range) where
         | inr o ↦ (
             let same : i ≡ k = omega arith in
             let q_is : r ≡ q = (let g : Some r ≡ Some q = sym at ∙ ap (slice_get ranges) same ∙ e in cc) in
-            let here : IsGreatest (options q) (get_or old i 0) = subst (λ (z : Range). IsGreatest (options z) (get_or old i 0)) q_is (subst (IsGreatest (options r)) (w.before i (omega arith)) (greatest n)) in
+            let here : IsGreatest (options q) (get_or old i 0) = subst (λ (z : Range). IsGreatest (options z) (get_or old i 0)) q_is
+            (subst (IsGreatest (options r)) (w.before i (omega arith)) (greatest n)) in
             subst (λ z. IsGreatest (options q) (get_or old z 0)) same here)
       ];
     }
@@ -228,17 +234,20 @@ module _ (ranges : List Range) where
   last_is (y ∷ xs) x = last_is xs x
 
   -- the least option of one range more
-  module _ (i : ℕ) (old new : List ℕ) (x : ℕ) (r : Range) (at : slice_get ranges i ≡ Some r) (n : length old ≡ i) (s : new ≡ old ++ x ∷ []) where
+  module _ (i : ℕ) (old new : List ℕ) (x : ℕ) (r : Range) (at : slice_get ranges i ≡ Some r) (n : length old ≡ i)
+      (s : new ≡ old ++ x ∷ []) where
     pub least_length : length new ≡ i + 1
     least_length = ap length s ∙ length_push old x ∙ ap (λ z. z + 1) n
 
-    pub least_more : IsLeastFrom (options r) 0 x → ((k : ℕ) (q : Range) → k < i → slice_get ranges k ≡ Some q → IsLeastFrom (options q) 0 (get_or old k 0))
+    pub least_more : IsLeastFrom (options r) 0 x → ((k : ℕ) (q : Range) → k < i → slice_get ranges k ≡ Some q → IsLeastFrom (options q) 0
+        (get_or old k 0))
         → (k : ℕ) (q : Range) → k < i + 1 → slice_get ranges k ≡ Some q → IsLeastFrom (options q) 0 (get_or new k 0)
     least_more h all k q l e = elim (cases_lt k i) [
       | inl m ↦ subst (IsLeastFrom (options q) 0) (sym (ap (λ z. get_or z k 0) s ∙ front_same old x k (omega arith))) (all k q m e)
       | inr m ↦ (
           let same : length old ≡ k = omega arith in
           let q_is : r ≡ q = (let f : Some r ≡ Some q = sym at ∙ ap (slice_get ranges) (sym n ∙ same) ∙ e in cc) in
-          let value : x ≡ get_or new k 0 = sym (last_is old x) ∙ ap (λ j. get_or (old ++ x ∷ []) j 0) same ∙ ap (λ z. get_or z k 0) (sym s) in
+          let value : x ≡ get_or new k 0 = sym (last_is old x) ∙ ap (λ j. get_or (old ++ x ∷ []) j 0) same ∙ ap (λ z. get_or z k 0)
+          (sym s) in
           subst (IsLeastFrom (options q) 0) value (subst (λ (z : Range). IsLeastFrom (options z) 0 x) q_is h))
     ]

@@ -36,7 +36,8 @@ module _ (InType : ℕ → ℕ → Type 0) where
       let there = among ps ks rs xs (λ i. are (suc i)) (omega arith) (omega arith) t.1 a.1 in
       record { as_many = (let m = there.as_many in omega arith); each = each here there }
     where
-      each : Contains (options r) x → AreAmong rs xs → (i : ℕ) (q : Range) → slice_get (r ∷ rs) i ≡ Some q → Contains (options q) (get_or (x ∷ xs) i 0)
+      each : Contains (options r) x → AreAmong rs xs → (i : ℕ) (q : Range) → slice_get (r ∷ rs) i ≡ Some q → Contains (options q)
+          (get_or (x ∷ xs) i 0)
       each here there zero q g = subst (λ (z : Range). Contains (options z) x) (let m : r ≡ q = cc in m) here
       each here there (suc i) q g = there.each i q g
   among [] [] [] (x ∷ xs) are e f t a = absurd t

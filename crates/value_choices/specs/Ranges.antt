@@ -31,7 +31,8 @@ module _ (InType : ℕ → ℕ → Type 0) where
   -- one for each parameter of the first ones
   pub record AreRanges (params : List Param) (known : List (Option ℕ)) (ranges : List Range) : Type 0 where
     pub as_many : length known ≡ length params
-    pub each : (i : ℕ) (p : Param) (k : Option ℕ) (r : Range) → slice_get params i ≡ Some p → slice_get known i ≡ Some k → slice_get ranges i ≡ Some r
+    pub each : (i : ℕ) (p : Param) (k : Option ℕ) (r : Range) → slice_get params i ≡ Some p → slice_get known i ≡ Some k
+        → slice_get ranges i ≡ Some r
         → IsRange p.ty k r
 
 abbrev pub AreIncreasing : List Range → Type 0

@@ -12,6 +12,7 @@ loop-i-preserved c =
     let is = c.in_ok-range.ensures.range in
     let e = c.in_ok-push.ensures.items in (
       length_push c.loop-i.ranges.items c.push.new.self.items c.in_ok-range.range e ∙ ap (λ n. n + 1) c.loop-i.invariant.0,
-      ranges_more (InType c.args.world.now.types.now c.args.world.now.objects.now) c.args.params.now c.args.known.now c.loop-i.i none _ c.loop-i.ranges.items c.push.new.self.items c.in_ok-range.range
+      ranges_more (InType c.args.world.now.types.now c.args.world.now.objects.now) c.args.params.now c.args.known.now c.loop-i.i none _
+          c.loop-i.ranges.items c.push.new.self.items c.in_ok-range.range
           c.loop-i-test.true c.loop-i.invariant.0 is e c.loop-i.invariant.1,
     )

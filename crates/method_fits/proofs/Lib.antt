@@ -1,0 +1,4 @@
+-- What a method's task and subtasks tell of its values.
+pub mod TypedObjects
+pub mod Steps
+pub mod FitLaws

@@ -1,0 +1,3 @@
+pub mod Worlds
+pub mod Subtasks
+pub mod Fits
