@@ -1,0 +1,7 @@
+pub mod Noting
+pub mod Taking
+pub mod Coming
+pub mod Going
+pub mod Told
+pub mod Having
+pub mod Rows
