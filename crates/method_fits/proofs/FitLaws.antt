@@ -20,7 +20,8 @@ use Rattle.value_choices.specs.Meeting.{AreMet, CanMeet, AreTheFirst}
 use Rattle.value_choices.specs.Settled.{Settles}
 use Rattle.value_choices.proofs.Known.{agree_none}
 use Rattle.method_fits.specs.declared.fit.Fit.{Fit}
-use Rattle.method_fits.specs.Subtasks.{is_check, with_values, works_of, subtasks, ArePut, AreWorksOf, IsSaid}
+use Rattle.plan_encoder.specs.Calls.{is_check, subtasks}
+use Rattle.method_fits.specs.Subtasks.{with_values, works_of, ArePut, AreWorksOf, IsSaid}
 use Rattle.method_fits.specs.Fits.{Decomposes, SaysTheSame, IsFit}
 use Rattle.method_fits.proofs.TypedObjects.{typed_length}
 

@@ -5,7 +5,8 @@ use Rattle.plan_model.specs.declared.values.Compiled.{Compiled}
 use Rattle.plan_model.specs.plan_meaning.Network.{Work, GroundMethod, network, IsGroundMethod}
 use Rattle.value_choices.specs.Choices.{Agree, Precedes}
 use Rattle.method_fits.specs.declared.fit.Fit.{Fit}
-use Rattle.method_fits.specs.Subtasks.{subtasks, with_values}
+use Rattle.plan_encoder.specs.Calls.{subtasks}
+use Rattle.method_fits.specs.Subtasks.{with_values}
 
 module _ (c : Compiled) where
   -- the ground method decomposes the task into these subtasks

@@ -1,6 +1,6 @@
 -- The subtasks of a ground method: actions and tasks with their objects, without the check of its precondition.
 -- Source: Höller et al., "HDDL", AAAI 2020: tasks, methods and their instances.
-use Rattle.std.specs.Prelude.{ℕ, ◌≡◌, Bool, true, false, not, filter, map, MatchOption, List, [], ◌∷◌, Option}
+use Rattle.std.specs.Prelude.{ℕ, ◌≡◌, not, filter, map, MatchOption, List, [], ◌∷◌, Option}
 use Rattle.plan_model.specs.declared.networks.Head.{Head}
 use Rattle.plan_model.specs.declared.networks.Head.TheVariants.{Task, Action, Check}
 use Rattle.plan_model.specs.declared.networks.Child.{Child}
@@ -8,13 +8,9 @@ use Rattle.plan_model.specs.declared.terms.Param.{Param}
 use Rattle.plan_model.specs.declared.schemas.MethodPlan.{MethodPlan}
 use Rattle.plan_model.specs.declared.values.Compiled.{Compiled}
 use Rattle.plan_model.specs.plan_meaning.Truth.{values_of}
-use Rattle.plan_model.specs.plan_meaning.Network.{Work, action, check, task, GroundMethod, network, child_of, IsDeclared, AreParamsOf}
+use Rattle.plan_model.specs.plan_meaning.Network.{Work, action, check, task, GroundMethod, child_of, IsDeclared, AreParamsOf}
+use Rattle.plan_encoder.specs.Calls.{is_check}
 use Rattle.method_fits.specs.declared.subtask.Subtask.{Subtask}
-
-abbrev pub is_check : Work → Bool
-is_check (action a args) = false
-is_check (check m values) = true
-is_check (task t args) = false
 
 -- what is of this kind, with these objects; no subtask is a check
 abbrev pub work_of : Head → List ℕ → Work
@@ -36,10 +32,6 @@ abbrev pub works_of : GroundMethod → List Child → List Work
 works_of g children = filter (λ w. not (is_check w)) (map (child_of g) children)
 
 module _ (c : Compiled) where
-  -- the subtasks, without the check
-  abbrev pub subtasks : GroundMethod → List Work
-  subtasks g = filter (λ w. not (is_check w)) ((network c).works g)
-
   -- the declared parameters of what is of this kind, where it is there
   abbrev pub HasParams : Head → List ℕ → Option (List Param) → Type 0
   HasParams head objects found = MatchOption found

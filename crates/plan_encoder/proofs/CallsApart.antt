@@ -21,7 +21,7 @@ use Rattle.plan_model.specs.plan_meaning.Truth.{AreTyped}
 use Rattle.plan_model.specs.plan_meaning.Network.{Work, action, check, task, InTypeOf, IsDeclared, top_task}
 use Rattle.tree_core.proofs.Gets.{one_place}
 use Rattle.hplan_text.specs.ShownPlan.{object_name, object_name_by, action_name_by, task_name_by}
-use Rattle.plan_encoder.specs.Calls.{Call, is_check, call}
+use Rattle.plan_encoder.specs.Calls.{Call, IsThere, AreThere, IsKnown, is_check, call}
 
 pub each_at : {A : Type 0} (P : A → Type 0) (xs : List A) (k : ℕ) (x : A) → EachIs P xs → slice_get xs k ≡ Some x → P x
 each_at P [] k x h e = absurd cc
@@ -42,27 +42,13 @@ not_empty [] p e = let f = p.1 in cc
 not_empty (b ∷ w) p e = cc
 
 module _ (c : Compiled) where
-  -- objects of the problem
-  abbrev pub IsThere : ℕ → Type 0
-  IsThere o = (x : Object) × (slice_get c.hddl.objects o ≡ Some x)
-
-  abbrev pub AreThere : List ℕ → Type 0
-  AreThere [] = Unit {0}
-  AreThere (o ∷ os) = IsThere o × AreThere os
-
-  pub typed_there : (params : List Param) (os : List ℕ) → AreTyped (InTypeOf c) params os → AreThere os
+  pub typed_there : (params : List Param) (os : List ℕ) → AreTyped (InTypeOf c) params os → AreThere c os
   typed_there [] [] t = tt
   typed_there (p ∷ ps) (o ∷ os) t = ((t.0.0, t.0.1), typed_there ps os t.1)
   typed_there [] (o ∷ os) t = absurd t
   typed_there (p ∷ ps) [] t = absurd t
 
-  -- an action or a task of the problem, with objects of it
-  abbrev pub IsKnown : Work → Type 0
-  IsKnown (action a args) = ((s : ActionSchema) × (slice_get c.hddl.actions a ≡ Some s)) × AreThere args
-  IsKnown (check m values) = ⊥
-  IsKnown (task t args) = ((s : TaskSchema) × (slice_get c.hddl.tasks t ≡ Some s)) × AreThere args
-
-  pub declared_is_known : (w : Work) → is_check w ≡ false → IsDeclared c w → IsKnown w
+  pub declared_is_known : (w : Work) → is_check w ≡ false → IsDeclared c w → IsKnown c w
   declared_is_known (action a args) n (params, (s, e, f), t) = ((s, e), typed_there params args t)
   declared_is_known (check m values) n d = absurd cc
   declared_is_known (task t args) n (params, (s, e, f), d) = ((s, e), typed_there params args d)
@@ -90,7 +76,7 @@ module _ (c : Compiled) where
         ∙ ap (option_map (λ (x : ActionSchema). named h.names x.name)) (subst (λ (z : Hddl). slice_get z.actions a ≡ Some s) is.hddl e)
 
     -- each has a name
-    object_has_name : (x : ℕ) → IsThere x → object_name c x ≡ [] → ⊥
+    object_has_name : (x : ℕ) → IsThere c x → object_name c x ≡ [] → ⊥
     object_has_name x (o, e) i = not_empty (named h.names o.name)
         (each_at IsPlain (map (λ (o : Object). named h.names o.name) h.objects) x (named h.names o.name) sound.value.words.objects (object_at x o e))
         (sym (named_in o.name) ∙ sym (ap (object_name_by c) e) ∙ i)
@@ -107,7 +93,7 @@ module _ (c : Compiled) where
         (sym (named_in s.name) ∙ sym (ap (action_name_by c) e) ∙ i)
 
     -- what has the name of one that is there is that one
-    object_once : (x y : ℕ) → IsThere x → object_name c x ≡ object_name c y → x ≡ y
+    object_once : (x y : ℕ) → IsThere c x → object_name c x ≡ object_name c y → x ≡ y
     object_once x y (o, f) e = go (slice_get c.hddl.objects y) refl
       where
         go : (p : Option Object) → slice_get c.hddl.objects y ≡ p → x ≡ y
@@ -117,7 +103,7 @@ module _ (c : Compiled) where
             one_place (map (λ (o : Object). named h.names o.name) h.objects) sound.value.words.objects_differ x y (named h.names o.name)
             (object_at x o f) (object_at y u g ∙ ap Some (sym words))
 
-    pub objects_once : (v w : List ℕ) → AreThere v → map (object_name c) v ≡ map (object_name c) w → v ≡ w
+    pub objects_once : (v w : List ℕ) → AreThere c v → map (object_name c) v ≡ map (object_name c) w → v ≡ w
     objects_once [] [] s e = refl
     objects_once [] (y ∷ w) s e = absurd cc
     objects_once (x ∷ v) [] s e = absurd cc
@@ -149,13 +135,13 @@ module _ (c : Compiled) where
             (action_at a s e) (action_at d r f ∙ ap Some (sym words))
 
     -- calls of actions that say the same are of one action with the same objects, and so are calls of tasks
-    pub same_action : (a d : ℕ) (v w : List ℕ) → IsKnown (action a v) → call c (action a v) ≡ call c (action d w) → action a v ≡ action d w
+    pub same_action : (a d : ℕ) (v w : List ℕ) → IsKnown c (action a v) → call c (action a v) ≡ call c (action d w) → action a v ≡ action d w
     same_action a d v w s e =
         let x = action_once a d s.0.0 s.0.1 (ap (λ (z : Call). z.name) e) in
         let y = objects_once v w s.1 (ap (λ (z : Call). z.args) e) in
         λ i. action (x i) (y i)
 
-    pub same_task : (t u : ℕ) (v w : List ℕ) → IsKnown (task t v) → call c (task t v) ≡ call c (task u w) → task t v ≡ task u w
+    pub same_task : (t u : ℕ) (v w : List ℕ) → IsKnown c (task t v) → call c (task t v) ≡ call c (task u w) → task t v ≡ task u w
     same_task t u v w s e =
         let x = task_once t u s.0.0 s.0.1 (ap (λ (z : Call). z.name) e) in
         let y = objects_once v w s.1 (ap (λ (z : Call). z.args) e) in

@@ -30,10 +30,10 @@ use Rattle.schedules.proofs.latest.LinesOfTrees.{split_children}
 use Rattle.schedules.proofs.latest.LinesOfTrees as of_lines
 use Rattle.schedules.proofs.latest.Rearranged.{in_map}
 use Rattle.schedules.proofs.latest.Renumbered.{id_of_step, id_of_split}
-use Rattle.plan_encoder.specs.Calls.{Call, Decomposed, split_of, lines_of, is_check, call, words}
+use Rattle.plan_encoder.specs.Calls.{Call, Decomposed, split_of, lines_of, is_check, call, words, IsKnown, subtasks}
 use Rattle.plan_encoder.specs.Laws.{TreesExactlyWhereFitting}
-use Rattle.plan_encoder.specs.Records.{IsLineOf, AreLinesOf, subtasks, Fits, FitsRoot, EachFits}
-use Rattle.plan_encoder.proofs.CallsApart.{IsKnown, declared_is_known, same_task}
+use Rattle.plan_encoder.specs.Records.{IsLineOf, AreLinesOf, Fits, FitsRoot, EachFits}
+use Rattle.plan_encoder.proofs.CallsApart.{declared_is_known, same_task}
 use Rattle.plan_encoder.proofs.CompiledMethods.{works_are}
 use Rattle.plan_encoder.proofs.SameRecords.{head_task}
 use Rattle.plan_encoder.proofs.ListedOnce.{id_at, AsMany, falses, id_listed, id_once, listed_at, images, passing, ids_are, different_lines, one_split, one_step, step_or_split, root_once, children_once, root_or_line, one_line}
@@ -614,7 +614,7 @@ module _ (c : Compiled) (plan : HPlan) where
 
     children_fit : (q : Address) (g : GroundMethod) → label_at N tree q ≡ Some (used g) → (ids : List ℕ)
         → ((i : ℕ) → Contains ids i → IsId P i)
-        → map node ids ≡ children_shown N W tree q → AreLinesOf c P ids (subtasks c P g)
+        → map node ids ≡ children_shown N W tree q → AreLinesOf c P ids (subtasks c g)
     children_fit q g e ids listed f =
         lines_of_children q g e 0 ids (N.works g) (λ n. ap (slice_get (N.works g)) (let x : 0 + n ≡ n = omega arith in x)) listed
         (f ∙ ap (λ o. children_of_label N W o q) e ∙ ap (map (λ j. j ∷ q)) (passing (Lines.is_shown N W) is_check (λ w. refl) (N.works g) (N.works g) 0 (λ n. ap (slice_get (N.works g)) (let x : 0 + n ≡ n = omega arith in x))))

@@ -23,9 +23,9 @@ use Rattle.schedules.specs.latest.Shown.{SaysTheSame, IsTreeFor}
 use Rattle.schedules.specs.latest.ShownLaws.{AreToldAlike}
 use Rattle.schedules.proofs.latest.GrownTrees.{tree_there, ground_at, simple_at, its_work}
 use Rattle.schedules.proofs.latest.ShownTheorem.{alike_trees}
-use Rattle.plan_encoder.specs.Calls.{Call, Decomposed, is_check, call, words}
+use Rattle.plan_encoder.specs.Calls.{Call, Decomposed, is_check, call, words, IsKnown}
 use Rattle.plan_encoder.specs.ChosenValues.{with_values, rechecked, CanHave}
-use Rattle.plan_encoder.proofs.CallsApart.{IsKnown, declared_is_known, same_action, same_task}
+use Rattle.plan_encoder.proofs.CallsApart.{declared_is_known, same_action, same_task}
 use Rattle.plan_encoder.proofs.CompiledMethods.{works_are, head_no_check}
 use Rattle.plan_encoder.proofs.Telling.{number_told, words_tell}
 

@@ -1,9 +1,12 @@
 -- What the lines of a hierarchical plan say, in the source's words: tasks by names and arguments, and the methods that decompose them.
 -- Source: the format of plans of the hierarchical track of the International Planning Competition 2020 (Behnke, Höller and Bercher).
-use Rattle.std.specs.Prelude.{ℕ, List, map, Bool, true, false, slice_get}
+use Rattle.std.specs.Prelude.{ℕ, ◌≡◌, List, [], ◌∷◌, map, filter, Bool, true, false, not, slice_get, Some}
+use Rattle.plan_model.specs.declared.types.Object.{Object}
+use Rattle.plan_model.specs.declared.schemas.ActionSchema.{ActionSchema}
+use Rattle.plan_model.specs.declared.schemas.TaskSchema.{TaskSchema}
 use Rattle.plan_model.specs.declared.values.Compiled.{Compiled}
 use Rattle.plan_model.specs.task_networks.Tree.{Tree, Address}
-use Rattle.plan_model.specs.plan_meaning.Network.{Work, action, check, task, network, objects_of}
+use Rattle.plan_model.specs.plan_meaning.Network.{Work, action, check, task, GroundMethod, network, objects_of}
 use Rattle.hplan_text.specs.declared.values.HLine.{HLine}
 use Rattle.hplan_text.specs.declared.values.HNode.{HNode}
 use Rattle.hplan_text.specs.declared.values.HPlan.{HPlan}
@@ -41,6 +44,24 @@ is_check (check m values) = true
 is_check (task t args) = false
 
 module _ (c : Compiled) where
+  -- objects of the problem
+  abbrev pub IsThere : ℕ → Type 0
+  IsThere o = (x : Object) × (slice_get c.hddl.objects o ≡ Some x)
+
+  abbrev pub AreThere : List ℕ → Type 0
+  AreThere [] = Unit {0}
+  AreThere (o ∷ os) = IsThere o × AreThere os
+
+  -- an action or a task of the problem, with objects of it
+  abbrev pub IsKnown : Work → Type 0
+  IsKnown (action a args) = ((s : ActionSchema) × (slice_get c.hddl.actions a ≡ Some s)) × AreThere args
+  IsKnown (check m values) = ⊥
+  IsKnown (task t args) = ((s : TaskSchema) × (slice_get c.hddl.tasks t ≡ Some s)) × AreThere args
+
+  -- the subtasks, without the check
+  abbrev pub subtasks : GroundMethod → List Work
+  subtasks g = filter (λ w. not (is_check w)) ((network c).works g)
+
   abbrev pub call : Work → Call
   call w = record { name = name_of c w; args = map (object_name c) (objects_of c w) }
 

@@ -1,12 +1,12 @@
 -- Which ground methods fit a decomposed task of a plan: the lines that it lists are those of the method's subtasks.
 -- Source: this project's; a line with an arrow is a ground method as in Höller et al., "HDDL", AAAI 2020, whose parameters that stand neither
 -- in its task nor in its subtasks are left open.
-use Rattle.std.specs.Prelude.{ℕ, ◌≡◌, List, [], ◌∷◌, filter, not, Contains}
+use Rattle.std.specs.Prelude.{ℕ, ◌≡◌, List, [], ◌∷◌, Contains}
 use Rattle.plan_model.specs.declared.values.Compiled.{Compiled}
 use Rattle.plan_model.specs.plan_meaning.Network.{Work, action, check, task, GroundMethod, network, IsGroundMethod}
 use Rattle.plan_model.specs.plan_meaning.Solution.{top_work}
 use Rattle.schedules.specs.latest.PlanLines.{SplitLine, PlanLines}
-use Rattle.plan_encoder.specs.Calls.{Call, Decomposed, is_check, call, words}
+use Rattle.plan_encoder.specs.Calls.{Call, Decomposed, subtasks, call, words}
 
 module _ (c : Compiled) (plan : PlanLines ℕ Call Decomposed) where
   -- the line with this id says the work: an action has a primitive's line, a task the line of a decomposition
@@ -22,21 +22,17 @@ module _ (c : Compiled) (plan : PlanLines ℕ Call Decomposed) where
   AreLinesOf [] (w ∷ ws) = ⊥
   AreLinesOf (i ∷ is) [] = ⊥
 
-  -- the subtasks, without the check
-  abbrev pub subtasks : GroundMethod → List Work
-  subtasks g = filter (λ w. not (is_check w)) ((network c).works g)
-
   -- the method fits the line
   pub record Fits (l : SplitLine ℕ Decomposed) (g : GroundMethod) : Type 0 where
     pub ground : IsGroundMethod c g
     pub says : (words c).split g ≡ l.split
-    pub children : AreLinesOf l.children (subtasks g)
+    pub children : AreLinesOf l.children (subtasks c g)
 
   -- the method fits the root, which has no line
   pub record FitsRoot (g : GroundMethod) : Type 0 where
     pub ground : IsGroundMethod c g
     pub head : (network c).head g ≡ top_work c
-    pub children : AreLinesOf plan.root (subtasks g)
+    pub children : AreLinesOf plan.root (subtasks c g)
 
   -- some method fits the root, and some fits each line of a decomposition
   pub record EachFits : Type 0 where
