@@ -1,7 +1,7 @@
 ghost use Rattle.std.specs.Prelude.{◌≡◌};
 
 use htn_base::Name;
-use plan_model::{ActionSchema, MethodPlan, Object};
+use plan_model::{ActionSchema, MethodPlan, Object, TaskSchema};
 
 /// What has a name.
 pub trait Named {
@@ -16,6 +16,14 @@ pub trait Named {
 
 impl Named for ActionSchema {
     ghost named = { λ action. action.name };
+
+    fn name(&self) -> Name {
+        self.name
+    }
+}
+
+impl Named for TaskSchema {
+    ghost named = { λ task. task.name };
 
     fn name(&self) -> Name {
         self.name

@@ -1,0 +1,12 @@
+//! The tree of a hierarchical plan whose lines are fitted by ground methods.
+//!
+//! Stands on `tree_core` for trees from growths, on `numbered_lines` and `line_fits` for the lines and their methods, and on the law of
+//! `plan_encoder` that a plan whose lines are fitted has a tree. The contract used above: `tree_of` gives the tree with these methods,
+//! and where the primitives stand in it.
+#![tactic(auto)]
+
+mod plan_tree;
+mod planting;
+
+pub use plan_tree::PlanTree;
+pub use planting::tree_of;

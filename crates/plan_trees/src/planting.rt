@@ -1,0 +1,25 @@
+ghost use Rattle.std.specs.Prelude.{◌≤◌, ◌+◌, length, IfOk};
+ghost use Rattle.htn_base.specs.Limits.{most_lines};
+ghost use Rattle.plan_texts.specs.SoundlyCompiled.{IsSoundlyCompiled};
+ghost use Rattle.plan_trees.specs.PlanTrees as spec;
+
+use crate::plan_tree::PlanTree;
+use htn_base::Memory;
+use line_fits::Fits;
+use numbered_lines::Lines;
+use plan_model::Compiled;
+use std::alloc::Global;
+
+/// The tree of the plan with these lines, where these ground methods fit them.
+pub fn tree_of(
+    alloc: Global,
+    c: &Compiled,
+    lines: &Lines,
+    fits: &Fits,
+) -> Result<PlanTree, Memory>
+    requires soundly { IsSoundlyCompiled c.now }
+    requires few { length lines.now.steps + length lines.now.splits ≤ most_lines }
+    ensures tree { IfOk result (spec.IsPlanTreeOf c.now lines.now fits.now) }
+{
+    Err(Memory)
+}

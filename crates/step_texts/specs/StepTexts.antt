@@ -1,0 +1,66 @@
+-- What a hierarchical plan comes to, as a text.
+-- Source: this project's, after the translation of Alford et al., "Bound to Plan", ICAPS 2016.
+use Rattle.std.specs.Prelude.{ℕ, ◌≡◌, ◌≤◌, ◌<◌, List, ◌++◌, codes, decimal, map, length, Option, Some, None}
+use Rattle.htn_base.specs.Limits.{most_slots}
+use Rattle.text_forms.specs.sheets.Sheets.{capped}
+use Rattle.plan_model.specs.declared.steps.GroundAction.{GroundAction}
+use Rattle.plan_model.specs.declared.values.Compiled.{Compiled}
+use Rattle.plan_model.specs.task_networks.Tree.{Tree, Address}
+use Rattle.plan_model.specs.task_networks.Pending.{IsWidth}
+use Rattle.plan_model.specs.task_networks.Spelling.{Act}
+use Rattle.plan_model.specs.plan_meaning.Network.{network}
+use Rattle.plan_model.specs.plan_meaning.Solution.{top_work}
+use Rattle.plan_model.specs.plan_meaning.SpelledPlan.{step_of}
+use Rattle.plan_texts.specs.PlanText.{plan_text}
+use Rattle.hplan_text.specs.declared.values.HPlan.{HPlan}
+use Rattle.schedules.specs.ruled.FirstFreeLaws.{SpellsLowest}
+use Rattle.placements.specs.Matching.{IsUnmatched}
+use Rattle.placements.specs.Placement.{IsPlaced, IsNotExecutable, MissesGoal, HasNoPlace}
+use Rattle.step_texts.specs.declared.text.StepText.{StepText}
+use Rattle.step_texts.specs.declared.text.StepText.TheVariants.{Whole, TooLong, NoMatch, NotExecutable, GoalFalse, NoPlacement, NeedsBound, TooWide}
+
+-- the width in a comment, and then the steps
+abbrev pub steps_text : ℕ → List GroundAction → List ℕ
+steps_text width steps = codes "; slots " ++ decimal width ++ codes "\n" ++ plan_text steps
+
+-- the given number of slots, or else the width
+abbrev pub slots_for : Option ℕ → ℕ → ℕ
+slots_for (Some n) width = n
+slots_for None width = width
+
+module _ (c : Compiled) (plan : HPlan) where
+  -- the width of the plan's latest schedule
+  pub record HasWidth (width : ℕ) : Type 0 where
+    pub tree : Tree (network c)
+    pub order : List Address
+    pub placed : IsPlaced c plan tree order
+    pub width_is : IsWidth (network c) width tree order
+
+  -- the steps spell the latest schedule with the lowest of so many slots, and this is its width
+  pub record IsSpelled (slots width : ℕ) (steps : List GroundAction) : Type 0 where
+    pub tree : Tree (network c)
+    pub order : List Address
+    pub placed : IsPlaced c plan tree order
+    pub width_is : IsWidth (network c) width tree order
+    pub within : width ≤ slots
+    pub few : slots ≤ most_slots
+    pub acts : List (Act (network c))
+    pub slot : Address → ℕ
+    pub lowest : SpellsLowest (network c) slots (top_work c) acts tree order slot
+    pub steps_are : steps ≡ map (step_of c) acts
+
+  module _ (given : Option ℕ) where
+    -- the text of the spelled steps
+    abbrev pub IsTextOf : List ℕ → Type 0
+    IsTextOf text = (width : ℕ) × (steps : List GroundAction) × IsSpelled (slots_for given width) width steps × (text ≡ steps_text width steps)
+
+    -- it, if it is at most so long; its length; or the first sentence that says why there is none
+    abbrev pub IsStepText : ℕ → StepText → Type 0
+    IsStepText most (Whole text) = IsTextOf text × (length text ≤ most)
+    IsStepText most (TooLong n) = (text : List ℕ) × IsTextOf text × (n ≡ capped (length text)) × (most < n)
+    IsStepText most (NoMatch id) = IsUnmatched c plan id
+    IsStepText most (NotExecutable id) = IsNotExecutable c plan id
+    IsStepText most GoalFalse = MissesGoal c plan
+    IsStepText most NoPlacement = HasNoPlace c plan
+    IsStepText most (NeedsBound width) = HasWidth width × ((n : ℕ) × (given ≡ Some n) × (n < width))
+    IsStepText most (TooWide width) = HasWidth width × (given ≡ None) × (most_slots < width)
