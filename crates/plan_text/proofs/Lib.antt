@@ -10,6 +10,7 @@ pub mod Folded
 pub mod Forms
 pub mod Marks
 pub mod PrintedParts
+pub mod PutTexts
 pub mod FormByForm
 pub mod Whole
 pub mod examples

@@ -20,6 +20,6 @@ mod words;
 
 pub use laws::{faultless_texts_spell_plans, printed_plans_are_read_back};
 pub use plan::{Plan, Steps};
-pub use printing::print;
+pub use printing::{print, put_plan};
 pub use reading::read;
 pub use step::Step;

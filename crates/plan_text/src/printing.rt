@@ -20,6 +20,15 @@ fn put_step(step: &GroundAction, sheet: &mut Sheet<'_>)
     sheet.put(b")\n");
 }
 
+/// Puts a plan on a sheet, each step as `(name arg arg)` on a line of its own.
+pub fn put_plan(plan: &[GroundAction], sheet: &mut Sheet<'_>)
+    ensures printed { Wrote (plan_text plan.now) sheet.old sheet.new }
+{
+    for step in plan {
+        put_step(step, sheet);
+    }
+}
+
 /// Appends a plan, each step as `(name arg arg)` on a line of its own. After `Memory` the text has a prefix of what was to be
 /// appended.
 pub fn print(plan: &[GroundAction], into: &mut Text) -> Result<(), Memory>
@@ -28,8 +37,6 @@ pub fn print(plan: &[GroundAction], into: &mut Text) -> Result<(), Memory>
     ensures spelled { ArePrintableSteps plan.now → SpellsPlan (plan_text plan.now) plan.now }
 {
     let mut sheet = Sheet::new(into, u64::MAX);
-    for step in plan {
-        put_step(step, &mut sheet);
-    }
+    put_plan(plan, &mut sheet);
     sheet.complete()
 }

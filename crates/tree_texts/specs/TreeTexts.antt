@@ -8,7 +8,7 @@ use Rattle.plan_model.specs.declared.values.Compiled.{Compiled}
 use Rattle.decoding.specs.PrintedSteps.{FailsAt}
 use Rattle.tree_core.specs.declared.growth.Scheduled.{Scheduled}
 use Rattle.text_forms.specs.declared.sheets.sheet.Ended.{Ended}
-use Rattle.text_forms.specs.declared.sheets.sheet.Ended.TheVariants as sheet
+use Rattle.plan_text.specs.Printing.{IsPutWithin}
 use Rattle.hplan_text.specs.ShownLaws.{IsShown}
 use Rattle.hplan_text.specs.declared.values.HPlan.{HPlan}
 use Rattle.hplan_text.specs.HPlanText.{hplan_text}
@@ -31,5 +31,4 @@ IsTextOf c run most (Fails step why) = ⊥
 
 -- the whole text of a plan, or its length, which is more than the limit
 abbrev pub IsPrinted : HPlan → ℕ → List ℕ → Ended → Type 0
-IsPrinted shown most text sheet.Whole = (text ≡ hplan_text shown) × (length text ≤ most)
-IsPrinted shown most text (sheet.TooLong n) = (n ≡ capped (length (hplan_text shown))) × (most < n)
+IsPrinted shown = IsPutWithin (hplan_text shown)

@@ -1,6 +1,7 @@
 use Rattle.std.proofs.Common.{subst, arith, rules}
 use Rattle.text_forms.specs.sheets.Sheets.{IsFresh}
-use Rattle.tree_texts.proofs.Texts.{is-printed}
+use Rattle.hplan_text.specs.HPlanText.{hplan_text}
+use Rattle.plan_text.proofs.PutTexts.{is_put}
 use Rattle.tree_texts.proofs.text.printed.Goals as goal
 
 pub returns : goal.returns
@@ -9,5 +10,5 @@ returns c =
     let one = c.new-sheet.ensures.same_text in
     let other = c.print.ensures.printed.same_text in
     record {
-      ended = is-printed c.args.shown.now fresh c.print.ensures.printed _ (search rules) (let e = c.len.ensures.length in omega (arith, e)) c.answer-ended.result (λ n e. (let counted = rw e at c.answer-ended.type_inv in omega (arith, counted))) c.answer-ended.ensures.ended;
+      ended = is_put (hplan_text c.args.shown.now) fresh c.print.ensures.printed _ (search rules) (let e = c.len.ensures.length in omega (arith, e)) c.answer-ended.result (λ n e. (let counted = rw e at c.answer-ended.type_inv in omega (arith, counted))) c.answer-ended.ensures.ended;
     }
