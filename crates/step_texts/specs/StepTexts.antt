@@ -1,6 +1,7 @@
 -- What a hierarchical plan comes to, as a text.
 -- Source: this project's, after the translation of Alford et al., "Bound to Plan", ICAPS 2016.
 use Rattle.std.specs.Prelude.{ℕ, ◌≡◌, ◌≤◌, ◌<◌, List, ◌++◌, codes, decimal, map, length, Option, Some, None}
+use Rattle.std.specs.Option.{unwrap_or}
 use Rattle.htn_base.specs.Limits.{most_slots}
 use Rattle.text_forms.specs.sheets.Sheets.{capped}
 use Rattle.plan_model.specs.declared.steps.GroundAction.{GroundAction}
@@ -14,14 +15,20 @@ use Rattle.plan_model.specs.plan_meaning.SpelledPlan.{step_of}
 use Rattle.plan_texts.specs.PlanText.{plan_text}
 use Rattle.hplan_text.specs.declared.values.HPlan.{HPlan}
 use Rattle.schedules.specs.ruled.FirstFreeLaws.{SpellsLowest}
+use Rattle.tree_core.specs.declared.growth.Scheduled.{Scheduled}
+use Rattle.slot_speller.specs.declared.spelled.Spelled.{Spelled}
+use Rattle.slot_speller.specs.Spelled as spelled
 use Rattle.placements.specs.Matching.{IsUnmatched}
 use Rattle.placements.specs.Placement.{IsPlaced, IsNotExecutable, MissesGoal, HasNoPlace}
 use Rattle.step_texts.specs.declared.text.StepText.{StepText}
 use Rattle.step_texts.specs.declared.text.StepText.TheVariants.{Whole, TooLong, NoMatch, NotExecutable, GoalFalse, NoPlacement, NeedsBound, TooWide}
 
 -- the width in a comment, and then the steps
+abbrev pub width_line : ℕ → List ℕ
+width_line width = codes "; slots " ++ decimal width ++ codes "\n"
+
 abbrev pub steps_text : ℕ → List GroundAction → List ℕ
-steps_text width steps = codes "; slots " ++ decimal width ++ codes "\n" ++ plan_text steps
+steps_text width steps = width_line width ++ plan_text steps
 
 -- the given number of slots, or else the width
 abbrev pub slots_for : Option ℕ → ℕ → ℕ
@@ -64,3 +71,25 @@ module _ (c : Compiled) (plan : HPlan) where
     IsStepText most NoPlacement = HasNoPlace c plan
     IsStepText most (NeedsBound width) = HasWidth width × ((n : ℕ) × (given ≡ Some n) × (n < width))
     IsStepText most (TooWide width) = HasWidth width × (given ≡ None) × (most_slots < width)
+
+-- the text of spelled steps, if it is at most so long, or its length
+abbrev pub IsTextOfSteps : Spelled → ℕ → StepText → Type 0
+IsTextOfSteps s most (Whole text) = (text ≡ steps_text s.width s.steps) × (length text ≤ most)
+IsTextOfSteps s most (TooLong n) = (n ≡ capped (length (steps_text s.width s.steps))) × (most < n)
+IsTextOfSteps s most _ = ⊥
+
+-- the given number of slots, or else the most that are printed
+abbrev pub slots_tried : Option ℕ → ℕ
+slots_tried given = unwrap_or given most_slots
+
+module _ (c : Compiled) (run : Scheduled) (given : Option ℕ) where
+  abbrev pub IsSpelledText : ℕ → StepText → Type 0
+  IsSpelledText most text = (s : Spelled) × spelled.IsSpelled c run (slots_tried given) s × IsTextOfSteps s most text
+
+  -- of each finished tree and order for which the run stands
+  abbrev pub IsRunText : ℕ → StepText → Type 0
+  IsRunText most (Whole text) = IsSpelledText most (Whole text)
+  IsRunText most (TooLong n) = IsSpelledText most (TooLong n)
+  IsRunText most (NeedsBound width) = spelled.IsWidthOf c run width × ((n : ℕ) × (given ≡ Some n) × (n < width))
+  IsRunText most (TooWide width) = spelled.IsWidthOf c run width × (given ≡ None) × (most_slots < width)
+  IsRunText most _ = ⊥

@@ -1,13 +1,22 @@
-ghost use Rattle.std.specs.Prelude.{◌≤◌, ◌+◌, length, IfOk, IfSome};
+ghost use Rattle.std.specs.Prelude.{◌≡◌, ◌≤◌, ◌+◌, [], length, IfOk, IfSome};
 ghost use Rattle.htn_base.specs.Limits.{most_lines, most_slots};
 ghost use Rattle.hplan_text.specs.Printable.{IsSoundHPlan, IsPrintableHPlan};
 ghost use Rattle.plan_texts.specs.SoundlyCompiled.{IsSoundlyCompiled};
+ghost use Rattle.plan_text.specs.Printing.{IsPutWithin};
+ghost use Rattle.text_forms.specs.sheets.Sheets.{Wrote};
 ghost use Rattle.step_texts.specs.StepTexts as spec;
 
 use hplan_text::HPlan;
+use htn_base::limits::MOST_SLOTS;
 use htn_base::{Memory, Text};
+use itoa::Buffer;
 use plan_model::Compiled;
+use plan_placer::{PlaceError, place};
+use plan_text::put_plan;
+use slot_speller::{SpellError, Spelled, spell};
 use std::alloc::Global;
+use text_forms::sheets::{Ended, Sheet};
+use tree_core::Scheduled;
 
 /// What a hierarchical plan comes to.
 #[derive(Drop)]
@@ -46,5 +55,68 @@ pub fn step_text(
     requires given { IfSome given (λ n. n ≤ most_slots) }
     ensures text { IfOk result (spec.IsStepText c.now plan.now given most) }
 {
-    Err(Memory)
+    match place(alloc, c, plan) {
+        Ok(run) => text_of(alloc, c, &run, given, most),
+        Err(PlaceError::NoMatch { id }) => Ok(StepText::NoMatch(id)),
+        Err(PlaceError::NotExecutable { id }) => Ok(StepText::NotExecutable(id)),
+        Err(PlaceError::GoalFalse) => Ok(StepText::GoalFalse),
+        Err(PlaceError::NoPlacement) => Ok(StepText::NoPlacement),
+        Err(PlaceError::Memory) => Err(Memory),
+    }
+}
+
+/// What a run comes to.
+fn text_of(
+    alloc: Global,
+    c: &Compiled,
+    run: &Scheduled,
+    given: Option<u32>,
+    most: u64,
+) -> Result<StepText, Memory>
+    requires soundly { IsSoundlyCompiled c.now }
+    ensures text { IfOk result (spec.IsRunText c.now run.now given most) }
+{
+    match spell(alloc, c, run, given.unwrap_or(MOST_SLOTS as u32)) {
+        Ok(spelled) => printed(alloc, &spelled, most),
+        Err(SpellError::NeedsBound { needed }) => match given {
+            Some(_) => Ok(StepText::NeedsBound(needed)),
+            None => Ok(StepText::TooWide(needed)),
+        },
+        Err(SpellError::Memory) => Err(Memory),
+    }
+}
+
+/// The text of spelled steps.
+fn printed(alloc: Global, spelled: &Spelled, most: u64) -> Result<StepText, Memory>
+    ensures text { IfOk result (spec.IsTextOfSteps spelled.now most) }
+{
+    let mut text = Text::new(alloc);
+    match put(spelled, most, &mut text)? {
+        Ended::Whole => Ok(StepText::Whole(text)),
+        Ended::TooLong(size) => Ok(StepText::TooLong(size)),
+    }
+}
+
+/// Puts the text of spelled steps on an empty one, if it is no longer than the limit.
+fn put(spelled: &Spelled, most: u64, into: &mut Text) -> Result<Ended, Memory>
+    requires empty { into.old ≡ [] }
+    ensures ended { IfOk result (IsPutWithin (spec.steps_text spelled.now.width spelled.now.steps) most into.new) }
+{
+    let mut sheet = Sheet::new(into, most);
+    put_width(spelled.width, &mut sheet);
+    put_plan(spelled.steps.as_slice(), &mut sheet);
+    let ended = sheet.answer();
+    // A text has fewer than 2^64 bytes.
+    let _ = into.len();
+    ended
+}
+
+/// Puts the line with the width.
+fn put_width(width: u32, sheet: &mut Sheet<'_>)
+    ensures { Wrote (spec.width_line width) sheet.old sheet.new }
+{
+    let mut digits = Buffer::new();
+    sheet.put(b"; slots ");
+    sheet.put(digits.format(width).as_bytes());
+    sheet.put(b"\n");
 }
