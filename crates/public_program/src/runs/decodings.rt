@@ -1,4 +1,4 @@
-//! Plans of the smallest problem and long plans, decoded: by hand. What two other programs made of random problems is in `decoded_rows`.
+//! Plans of the smallest problem and long plans, decoded: by hand. What two other programs made of random problems is in `plan_rows`.
 use super::texts::{DOMAIN, PROBLEM};
 use super::{Before, DECODE, Failing, Row, Source, UNWRITTEN, replay};
 use htn_cli::Status;

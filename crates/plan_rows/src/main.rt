@@ -1,9 +1,10 @@
-//! Prints for each row of `data/rows` how a run of `decode` ends: its status, what it told on standard output, and its line.
+//! Prints for each row of `data/rows` how a run of `decode` or `encode` ends: its status, what it told on standard output, and its line.
 //!
-//! Stands on `run`, over files in memory. A row is a domain, a problem, a plan and the options, a bar behind each: random problems, and
-//! plans of them, whole and broken; then examples/transport, 999 uses of a tail-recursive method, and small problems. Two programs that
-//! share nothing with this one, nor with each other, made what is due of the random ones, which `stdout` has, and agree on every byte; the
-//! others were worked out by hand, and the uses by a script. Nothing that this program prints was put in.
+//! Stands on `run`, over files in memory. A row is the words of a run, a domain, a problem and a plan, a bar behind each: first decodings,
+//! then encodings; in both random problems, and plans of them, whole and broken, then examples/transport and small problems, with 999 uses
+//! of a tail-recursive method. Two programs that share nothing with this one, nor with each other, made what is due of the random ones,
+//! which `stdout` has, and agree on every byte; the others were worked out by hand, and the uses by a script. Nothing that this program
+//! prints was put in.
 #![tactic(auto)]
 
 use htn_base::Memory;
@@ -16,7 +17,7 @@ use std::process::ExitCode;
 use std::str;
 
 /// So many rows stand in `data/rows`.
-const ROWS: u32 = 267;
+const ROWS: u32 = 551;
 
 /// More bytes than these have.
 const LIMIT: u64 = 1_000_000;
@@ -63,13 +64,13 @@ impl From<io::Error> for Failure {
     }
 }
 
-/// The three texts of a row, and its options.
+/// The words of a row, and its three texts.
 #[derive(Clone, Copy)]
 struct Row<'t> {
+    words: &'t str,
     domain: &'t str,
     problem: &'t str,
     plan: &'t str,
-    options: &'t str,
 }
 
 fn main(rt: HostRuntime) -> ExitCode {
@@ -94,18 +95,18 @@ fn print_rows(rt: &HostRuntime, alloc: Global, files: &mut DiskFiles) -> Result<
 fn print_all(rt: &HostRuntime, alloc: Global, text: &str) -> Result<(), Failure> {
     let mut rest = text;
     for _ in 0..ROWS {
-        let (domain, behind) = field_of(rest)?;
+        let (words, behind) = field_of(rest)?;
+        let (domain, behind) = field_of(behind)?;
         let (problem, behind) = field_of(behind)?;
         let (plan, behind) = field_of(behind)?;
-        let (options, behind) = field_of(behind)?;
         print_row(
             rt,
             alloc,
             &Row {
+                words,
                 domain,
                 problem,
                 plan,
-                options,
             },
         )?;
         rest = behind;
@@ -126,7 +127,8 @@ fn print_row(rt: &HostRuntime, alloc: Global, row: &Row<'_>) -> Result<(), Failu
     files.add("d.hddl", row.domain.as_bytes())?;
     files.add("p.hddl", row.problem.as_bytes())?;
     files.add("plan", row.plan.as_bytes())?;
-    let words = words_of(alloc, row.options)?;
+    files.add("hplan", row.plan.as_bytes())?;
+    let words = words_of(alloc, row.words)?;
     let mut out = MemSink::new(alloc, LARGEST);
     let mut err = MemSink::new(alloc, LARGEST);
     let status = run(alloc, words.as_slice(), &mut files, &mut out, &mut err).code();
@@ -136,13 +138,10 @@ fn print_row(rt: &HostRuntime, alloc: Global, row: &Row<'_>) -> Result<(), Failu
     Ok(())
 }
 
-/// The words of a run: `decode`, the names of its files, and the options.
-fn words_of(alloc: Global, options: &str) -> Result<Vec<String>, Memory> {
+/// The words of a run.
+fn words_of(alloc: Global, text: &str) -> Result<Vec<String>, Memory> {
     let mut words = Vec::new(alloc);
-    for word in ["decode", "d.hddl", "p.hddl", "plan"] {
-        words.push(String::from_str(alloc, word)?)?;
-    }
-    for word in options.split_ascii_whitespace() {
+    for word in text.split_ascii_whitespace() {
         words.push(String::from_str(alloc, word)?)?;
     }
     Ok(words)

@@ -1,0 +1,37 @@
+-- That a hierarchical plan comes to one thing alone, whichever value of two texts is taken.
+-- Source: this project's.
+use Rattle.std.specs.Prelude.{ℕ, ◌≡◌, List, Option}
+use Rattle.plan_model.specs.declared.options.Checks.{Checks}
+use Rattle.plan_model.specs.declared.steps.GroundAction.{GroundAction}
+use Rattle.plan_model.specs.declared.values.Hddl.{Hddl}
+use Rattle.plan_model.specs.declared.values.Compiled.{Compiled}
+use Rattle.plan_model.specs.plan_meaning.Compilation.{IsCompiled}
+use Rattle.plan_texts.specs.FirstSeen.{IsHddlOf}
+use Rattle.hplan_text.specs.declared.values.HPlan.{HPlan}
+use Rattle.hplan_text.specs.Printable.{IsSoundHPlan}
+use Rattle.plan_encoder.specs.Laws.{IsOf}
+use Rattle.placements.specs.Matching.{IsUnmatched}
+use Rattle.placements.specs.Placement.{IsNotExecutable, MissesGoal, HasNoPlace}
+use Rattle.step_texts.specs.declared.text.StepText.{StepText}
+use Rattle.step_texts.specs.StepTexts.{HasWidth, IsSpelled, IsStepText}
+
+-- a plan whose ids are sound comes to one text at most, with the given number of slots or without, and with any limit
+abbrev pub EachIsEncodedOnce : Type 0
+EachIsEncodedOnce = (h : Hddl) (mode : Checks) (c : Compiled) → IsOf h mode c → (plan : HPlan) → IsSoundHPlan plan
+    → (given : Option ℕ) (most : ℕ) (one other : StepText) → IsStepText c plan given most one → IsStepText c plan given most other
+    → one ≡ other
+
+-- what a plan comes to is the same of two compiled problems
+pub record AreEncodedAlike (c k : Compiled) (plan : HPlan) : Type 0 where
+  pub unmatched : (id : Option ℕ) → IsUnmatched c plan id → IsUnmatched k plan id
+  pub not_executable : (id : ℕ) → IsNotExecutable c plan id → IsNotExecutable k plan id
+  pub misses : MissesGoal c plan → MissesGoal k plan
+  pub no_place : HasNoPlace c plan → HasNoPlace k plan
+  pub width : (width : ℕ) → HasWidth c plan width → HasWidth k plan width
+  pub spelled : (slots width : ℕ) (steps : List GroundAction) → IsSpelled c plan slots width steps → IsSpelled k plan slots width steps
+
+-- of each two values of two texts
+abbrev pub ValuesAreEncodedAlike : Type 0
+ValuesAreEncodedAlike = (domain problem : List ℕ) (h i : Hddl) (checks : Checks) (c k : Compiled) (plan : HPlan)
+    → IsHddlOf domain problem h → IsHddlOf domain problem i → IsOf h checks c → IsCompiled i checks k
+    → AreEncodedAlike c k plan
