@@ -5,8 +5,10 @@
 //! contract used above: `fit_lines` gives a ground method for the root and for each line, or the first of these that none fits.
 #![tactic(auto)]
 
+mod children;
 mod fitted;
 mod fitting;
+mod wanted;
 
 pub use fitted::{FitError, Fits, MethodFit};
 pub use fitting::fit_lines;

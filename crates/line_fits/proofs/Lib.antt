@@ -1,0 +1,5 @@
+-- Fits by numbers are fits.
+pub mod PairedLists
+pub mod SaidLines
+pub mod KnownWorks
+pub mod SameFits
