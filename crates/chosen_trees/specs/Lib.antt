@@ -1,1 +1,2 @@
 pub mod ChosenTrees
+pub mod Growing
