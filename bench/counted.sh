@@ -2,8 +2,8 @@
 # Counts the instructions of the whole program, which no load of the machine disturbs, from files to files: 400 tasks, methods and
 # actions at one slot; the smallest problem at 65,536 slots in style adl; 54 actions at 65,536 slots in style flat; Transport with
 # 2,000 packages at 4,096 slots; 500 methods of 40 subtasks; 140,000 facts; and `validate` of 50,000 steps (bench/validate.sh has
-# the same with a million); `decode` of 25,000 uses of a tail-recursive method, and of the deliveries of 200 packages. Wants ./htn,
-# as examples/transport/run leaves it, and valgrind. A line each: the instructions.
+# the same with a million); `decode` of 25,000 uses of a tail-recursive method, and of the deliveries of 200 packages, and `encode` of
+# the trees of both. Wants ./htn, as examples/transport/run leaves it, and valgrind. A line each: the instructions.
 #
 # Counted, in the order of the cases, millions: 19.7, 97.8, 756.6, 408.0, 303.0, 285.5, 215.2, and `decode` 317.5, 24.6. Before words of
 # one hash were found in buckets of four: 19.6, 81.4, 740.6, 405.3, 330.7, 279.0, 210.1. Before words of one hash were found in
@@ -92,12 +92,12 @@ shortened "$transport/expected/domain.pddl" >"$work/domain"
 shortened "$transport/expected/problem.pddl" >"$work/problem"
 shortened "$transport/plan" >"$work/short"
 {
-    head -n 13 "$work/short"
+    head -n 14 "$work/short"
     yes '(m 6 4 v k l l)
 (d 4 v k l)
 (m 6 4 v l k l)
 (d 4 v l k)' | head -n 50000 || true
-    tail -n +14 "$work/short"
+    tail -n +15 "$work/short"
 } >"$work/plan"
 
 echo "(define (domain d) (:task t :parameters ()) (:method m :parameters () :task (t) :ordered-subtasks (and (a) (t))) (:method e :parameters () :task (t) :subtasks ()) (:action a :parameters ()))" >"$work/uses_domain"
@@ -140,3 +140,8 @@ counted "140,000 facts" translate "$transport/domain.hddl" "$work/facts" "$work/
 counted "validate of 50,000 steps" validate "$work/domain" "$work/problem" "$work/plan"
 counted "decode of 25,000 uses, 50,002 steps" decode "$work/uses_domain" "$work/task" "$work/uses"
 counted "decode of 200 packages, 2,199 steps" decode "$transport/domain.hddl" "$work/made" "$work/made_plan" --bound 204
+
+"$top/htn" decode "$work/uses_domain" "$work/task" "$work/uses" >"$work/uses_tree"
+counted "encode of 25,000 uses, 50,001 lines" encode "$work/uses_domain" "$work/task" "$work/uses_tree"
+"$top/htn" decode "$transport/domain.hddl" "$work/made" "$work/made_plan" --bound 204 >"$work/made_tree"
+counted "encode of 200 packages" encode "$transport/domain.hddl" "$work/made" "$work/made_tree"
