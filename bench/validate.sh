@@ -28,9 +28,9 @@ to_and_fro() {
 shortened "$folder/expected/domain.pddl" >"$work/domain"
 shortened "$folder/expected/problem.pddl" >"$work/problem"
 shortened "$folder/plan" >"$work/short"
-head -n 13 "$work/short" >"$work/plan"
+head -n 14 "$work/short" >"$work/plan"
 to_and_fro 999972 >>"$work/plan"
-tail -n +14 "$work/short" >>"$work/plan"
+tail -n +15 "$work/short" >>"$work/plan"
 best=1000
 kilobytes=0
 for run in 1 2 3 4 5; do
