@@ -34,7 +34,7 @@ pub fn with_values(
     }
     // The nodes are joined as they were.
     match grow(alloc, growths) {
-        Ok(run) => run.tree.copy(alloc),
+        Ok(run) => Ok(run.into_tree()),
         Err(_) => Err(Memory),
     }
 }

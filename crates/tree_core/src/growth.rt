@@ -49,6 +49,14 @@ impl Drop for Scheduled {
 }
 
 impl Scheduled {
+    /// The tree alone.
+    pub fn into_tree(self) -> Tree
+        ensures tree { result ≡ self.tree }
+    {
+        let Scheduled { tree, order: _ } = self;
+        tree
+    }
+
     /// An equal tree with an equal order.
     pub fn copy(&self, alloc: Global) -> Result<Scheduled, Memory>
         ensures equal { IfOk result (λ copy. copy ≡ self.now) }

@@ -1,6 +1,5 @@
-use Rattle.std.proofs.Common.{◌≡◌, ◌+◌, ap, sym, subst, ◌∙◌}
+use Rattle.std.proofs.Common.{◌+◌, ap, sym, subst, ◌∙◌}
 use Rattle.std.specs.Option.{unwrap_or}
-use Rattle.std.proofs.lemmas.Result.{IfOk-weaker}
 use Rattle.tree_core.specs.declared.growth.Growth.{Growth}
 use Rattle.tree_core.specs.Labels.{label_of}
 use Rattle.chosen_trees.specs.ChosenTrees.{IsChosenTree}
@@ -31,9 +30,7 @@ loop-label-preserved c =
 
 pub returns-in-Ok : goal.returns-in-Ok
 returns-in-Ok c = record {
-  tree = IfOk-weaker c.copy.result (λ made. made ≡ c.in-Ok.run'.tree) (IsChosenTree c.args.c.now c.args.tree.now c.args.values.now)
-      (λ made e. subst (IsChosenTree c.args.c.now c.args.tree.now c.args.values.now) (sym e)
+  tree = subst (IsChosenTree c.args.c.now c.args.tree.now c.args.values.now) (sym c.into_tree.ensures.tree)
       (grown_is_chosen c.args.c.now c.args.values.now c.args.tree.now c.requires.soundly c.loop-label.address c.loop-label.growths
-      c.loop-label.invariant.growths c.loop-label.invariant.within c.in_default.ensures.label c.in-Ok.run' c.in-Ok.ensures.tree))
-      c.copy.ensures.equal;
+      c.loop-label.invariant.growths c.loop-label.invariant.within c.in_default.ensures.label c.in-Ok.run' c.in-Ok.ensures.tree);
 }
