@@ -92,7 +92,8 @@ module _ (c : Compiled) (sc : IsSoundlyCompiled c) (plan : HPlan) (s : IsSoundHP
     of_step line on id (Some x) said w e =
         let w_is : action x.number x.objects ≡ w = cc in
         let says = said.says in
-        let l : step_of line ≡ record { id = i; step = call c (action x.number x.objects) } = λ n. record { id = id n; step = sym says n } in
+        let w_call = call c (action x.number x.objects) in
+        let l : step_of line ≡ record { id = i; step = w_call } = λ n. record { id = id n; step = sym says n } in
         subst (IsLineOf c P i) w_is (subst (Contains P.steps) l (in_map step_of plan.primitives line on))
 
     of_split : (node : HNode) → Contains plan.nodes node → node.line.id ≡ i → (split : Split) → AreSaid c task node.line split.task

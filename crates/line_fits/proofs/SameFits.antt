@@ -44,7 +44,8 @@ module _ (c : Compiled) (sc : IsSoundlyCompiled c) (plan : HPlan) (s : IsSoundHP
     fits_split some f =
         let (k, e) = other g.number refl in
         let at : slice_get c.methods (suc k) ≡ Some p = ap (slice_get c.methods) (sym e) ∙ f.ground.is in
-        let own : IsSaid c node.line (decomposed g p) = record { known = known_head c sc g f.ground k e; says = ap (call c) (sym head_p) ∙ says_task } in
+        let known = known_head c sc g f.ground k e in
+        let own : IsSaid c node.line (decomposed g p) = record { known = known; says = ap (call c) (sym head_p) ∙ says_task } in
         let (m, is_m, number) = method_is k e at split.method refl is.method_is in
         let (x, is_x, head) = task_is own split.task refl is.task_is in (
           m,

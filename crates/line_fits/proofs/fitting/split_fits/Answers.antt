@@ -1,4 +1,5 @@
-use Rattle.std.proofs.Common.{◌≡◌, ◌+◌, ◌<◌, Some, take, length, slice_get, sym, subst, refl, arith}
+use Rattle.std.proofs.Common.{◌≡◌, ◌+◌, ◌<◌, ◌≤◌, Some, take, length, slice_get, ap, sym, subst, refl, arith}
+use Rattle.std.proofs.lemmas.List.{take_all}
 use Rattle.std.proofs.lemmas.Option.{slice_get_read}
 use Rattle.line_fits.specs.Fitted.{method_of}
 use Rattle.line_fits.specs.ByNumbers.{IsTheFit, FitsSplit, AreSplitFits}
@@ -20,3 +21,11 @@ loop-place-preserved c =
       splits = c.loop-place.invariant.splits;
       fitted = subst (AreSplitFits lines c.args.c.now (take (place + 1) lines.splits)) (sym c.in_ok-push-in-Some.ensures.pushed) next;
     }
+
+pub returns-clause-fits : goal.returns-clause-fits
+returns-clause-fits c =
+    let splits = c.args.lines.now.splits in
+    let many = ap length c.loop-place.invariant.splits in
+    let all : length splits ≤ c.loop-place.place = omega (arith, many, c.loop-place-test.false) in
+    subst (λ seen. AreSplitFits c.args.lines.now c.args.c.now seen c.loop-place.fits) (take_all c.loop-place.place splits all)
+    c.loop-place.invariant.fitted
