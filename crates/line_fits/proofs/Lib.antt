@@ -2,4 +2,6 @@
 pub mod PairedLists
 pub mod SaidLines
 pub mod KnownWorks
+pub mod WantedFits
 pub mod SameFits
+pub mod AllFits

@@ -38,7 +38,8 @@ module _ (c : Compiled) (sc : IsSoundlyCompiled c) (line : HLine) where
   one_task s here t v is =
       same_task c sc.problem sc.checks sc.sound sc.compiled s.number t s.objects v here.known (here.says ∙ sym is.says)
 
-module _ (c : Compiled) (sc : IsSoundlyCompiled c) (plan : HPlan) (s : IsSoundHPlan plan) (lines : Lines) (num : AreNumbered c plan lines) where
+module _ (c : Compiled) (sc : IsSoundlyCompiled c) (plan : HPlan) (s : IsSoundHPlan plan) (lines : Lines)
+    (num : AreNumbered c plan lines) where
   abbrev P : PlanLines ℕ Call Decomposed
   P = lines_of plan
 
@@ -47,6 +48,12 @@ module _ (c : Compiled) (sc : IsSoundlyCompiled c) (plan : HPlan) (s : IsSoundHP
 
   abbrev splits : List (Option Work)
   splits = map split_work lines.splits
+
+  abbrev step_ids : List ℕ
+  step_ids = map line_id plan.primitives
+
+  abbrev split_ids : List ℕ
+  split_ids = map node_id plan.nodes
 
   -- the works of a primitive line and of a decomposed one, by its place
   step_at : (k : ℕ) (line : HLine) → slice_get plan.primitives k ≡ Some line
@@ -68,6 +75,16 @@ module _ (c : Compiled) (sc : IsSoundlyCompiled c) (plan : HPlan) (s : IsSoundHP
         is,
       )
 
+  -- the ids by the places
+  step_id : (k : ℕ) (line : HLine) → slice_get plan.primitives k ≡ Some line → slice_get (task_ids plan) k ≡ Some line.id
+  step_id k line e = get_left step_ids split_ids k line.id (get-map line_id plan.primitives k line e)
+
+  split_id : (k : ℕ) (node : HNode) → slice_get plan.nodes k ≡ Some node
+      → slice_get (task_ids plan) (length plan.primitives + k) ≡ Some node.line.id
+  split_id k node e =
+      ap (λ n. slice_get (task_ids plan) (n + k)) (sym (length-map plan.primitives line_id))
+      ∙ get_right step_ids split_ids k ∙ get-map node_id plan.nodes k node e
+
   module _ (place i : ℕ) (at : IsAtPlace (task_ids plan) place i) where
     of_step : (line : HLine) → Contains plan.primitives line → line.id ≡ i → (found : Option Said) → AreSaid c action line found
         → (w : Work) → step_work found ≡ Some w → IsLineOf c P i w
@@ -75,7 +92,8 @@ module _ (c : Compiled) (sc : IsSoundlyCompiled c) (plan : HPlan) (s : IsSoundHP
     of_step line on id (Some x) said w e =
         let w_is : action x.number x.objects ≡ w = cc in
         let says = said.says in
-        let l : step_of line ≡ record { id = i; step = call c (action x.number x.objects) } = λ n. record { id = id n; step = sym says n } in
+        let w_call = call c (action x.number x.objects) in
+        let l : step_of line ≡ record { id = i; step = w_call } = λ n. record { id = id n; step = sym says n } in
         subst (IsLineOf c P i) w_is (subst (Contains P.steps) l (in_map step_of plan.primitives line on))
 
     of_split : (node : HNode) → Contains plan.nodes node → node.line.id ≡ i → (split : Split) → AreSaid c task node.line split.task
@@ -94,23 +112,16 @@ module _ (c : Compiled) (sc : IsSoundlyCompiled c) (plan : HPlan) (s : IsSoundHP
       | inl l ↦ (
           let (found, there, is) = mapped step_work lines.steps place (Some w) l.1 in
           let (line, here, said) = from_right (AreSaid c action) plan.primitives lines.steps num.steps_are place found there in
-          let its = get_left (map line_id plan.primitives) (map node_id plan.nodes) place line.id (get-map line_id plan.primitives place line here) in
-          let id : line.id ≡ i = (let f : Some line.id ≡ Some i = sym its ∙ at in cc) in
+          let id : line.id ≡ i = (let f : Some line.id ≡ Some i = sym (step_id place line here) ∙ at in cc) in
           of_step line (at_place plan.primitives place line here) id found said w is)
       | inr (j, p, l) ↦ (
           let (split, there, is) = mapped split_work lines.splits j (Some w) l in
           let (node, here, sp) = from_right (IsSplitOf c (task_ids plan)) plan.nodes lines.splits num.splits_are j split there in
-          let its = node_here j node here in
-          let same : place ≡ length plan.primitives + j = p ∙ ap (λ n. n + j) (sym as_many) in
-          let id : node.line.id ≡ i = (let f : Some node.line.id ≡ Some i = sym its ∙ ap (slice_get (task_ids plan)) (sym same) ∙ at in cc) in
+          let same : length plan.primitives + j ≡ place = ap (λ n. n + j) as_many ∙ sym p in
+          let its = ap (slice_get (task_ids plan)) same ∙ at in
+          let id : node.line.id ≡ i = (let f : Some node.line.id ≡ Some i = sym (split_id j node here) ∙ its in cc) in
           of_split node (at_place plan.nodes j node here) id split sp.task_is w is)
     ]
-      where
-        node_here : (j : ℕ) (node : HNode) → slice_get plan.nodes j ≡ Some node
-            → slice_get (task_ids plan) (length plan.primitives + j) ≡ Some node.line.id
-        node_here j node here =
-            ap (λ n. slice_get (task_ids plan) (n + j)) (sym (length-map plan.primitives line_id))
-            ∙ get_right (map line_id plan.primitives) (map node_id plan.nodes) j ∙ get-map node_id plan.nodes j node here
 
     -- and the work that the line with the id says stands there
     pub line_work : (w : Work) → IsKnown c w → IsLineOf c P i w → IsWorkAt lines place w
@@ -121,18 +132,16 @@ module _ (c : Compiled) (sc : IsSoundlyCompiled c) (plan : HPlan) (s : IsSoundHP
         let id : line.id ≡ i = ap (λ (z : StepLine ℕ Call). z.id) same in
         let says : call_of line ≡ call c (action a v) = ap (λ (z : StepLine ℕ Call). z.step) same in
         let (found, there, said) = step_at k line here in
-        let its = get_left (map line_id plan.primitives) (map node_id plan.nodes) k i (get-map line_id plan.primitives k line here ∙ ap Some id) in
-        let p : place ≡ k = one_place (task_ids plan) s.own place k i at its in
-        ap (slice_get (all_works lines)) p ∙ there ∙ ap Some (one_action c sc line found said a v (record { known = known; says = sym says }))
+        let p : place ≡ k = one_place (task_ids plan) s.own place k i at (step_id k line here ∙ ap Some id) in
+        let own : IsSaid c line (action a v) = record { known = known; says = sym says } in
+        ap (slice_get (all_works lines)) p ∙ there ∙ ap Some (one_action c sc line found said a v own)
     line_work (task t v) known (l, m, id, says) =
         let (k, on) = place_of P.splits l m in
         let (node, here, same) = mapped split_of plan.nodes k l on in
         let own : node.line.id ≡ i = ap (λ (z : SplitLine ℕ Decomposed). z.id) same ∙ id in
         let said : call_of node.line ≡ call c (task t v) = ap (λ (z : SplitLine ℕ Decomposed). z.split.task) same ∙ says in
         let (split, there, is) = split_at k node here in
-        let its =
-        ap (λ n. slice_get (task_ids plan) (n + k)) (sym (length-map plan.primitives line_id))
-        ∙ get_right (map line_id plan.primitives) (map node_id plan.nodes) k ∙ get-map node_id plan.nodes k node here ∙ ap Some own in
+        let its = split_id k node here ∙ ap Some own in
         let p : place ≡ length plan.primitives + k = one_place (task_ids plan) s.own place (length plan.primitives + k) i at its in
         ap (slice_get (all_works lines)) p ∙ there
         ∙ ap Some (go node.line split.task is.task_is (record { known = known; says = sym said }))
@@ -143,8 +152,8 @@ module _ (c : Compiled) (sc : IsSoundlyCompiled c) (plan : HPlan) (s : IsSoundHP
         go line (Some x) here is = ap Some (one_task c sc line x here t v is)
 
   -- the same of many
-  pub works_lines : (places ids : List ℕ) (works : List Work) → Together (IsAtPlace (task_ids plan)) places ids → AreWorksAt lines places works
-      → AreLinesOf c P ids works
+  pub works_lines : (places ids : List ℕ) (works : List Work) → Together (IsAtPlace (task_ids plan)) places ids
+      → AreWorksAt lines places works → AreLinesOf c P ids works
   works_lines [] [] [] t a = tt
   works_lines [] [] (w ∷ ws) t a = absurd a
   works_lines [] (i ∷ is) ws t a = absurd t

@@ -4,36 +4,26 @@ ghost use Rattle.line_fits.specs.ByNumbers as spec;
 
 use htn_base::Memory;
 use method_fits::Subtask;
-use numbered_lines::{Lines, Split};
+use numbered_lines::Lines;
 use plan_model::Head;
 
 /// The subtask that the line at a place says. `None` where it says none.
 fn subtask_at(lines: &Lines, place: usize) -> Option<Subtask<'_>>
     ensures { spec.IsTheSubtask lines.now place result }
 {
-    let steps = lines.steps.len();
-    if place < steps {
-        match lines.steps.get(place) {
-            Some(Some(step)) => Some(Subtask {
-                head: Head::Action(step.number),
-                objects: step.objects.as_slice(),
-            }),
-            _ => None,
-        }
-    } else {
-        match lines.splits.get(place - steps) {
-            Some(
-                Split {
-                    task: Some(task),
-                    ..
-                },
-            ) => Some(Subtask {
-                head: Head::Task(task.number),
-                objects: task.objects.as_slice(),
-            }),
-            _ => None,
-        }
+    if let Some(step) = lines.steps.get(place) {
+        let action = step.as_ref()?;
+        return Some(Subtask {
+            head: Head::Action(action.number),
+            objects: action.objects.as_slice(),
+        });
     }
+    let split = lines.splits.get(place - lines.steps.len())?;
+    let task = split.task.as_ref()?;
+    Some(Subtask {
+        head: Head::Task(task.number),
+        objects: task.objects.as_slice(),
+    })
 }
 
 /// Puts the subtasks that the lines at these places say in place of what was there. `false` where one of them says none.

@@ -16,7 +16,7 @@ use problem_index::World;
 use std::alloc::Global;
 use std::mem;
 
-/// The first ground method that does what is wanted. `None` where none does.
+/// The first ground method that does what is wanted. `None` where none does. What the lines say is written into `said`.
 fn fit<'a>(
     alloc: Global,
     world: &World<'_>,
@@ -48,7 +48,7 @@ fn fit<'a>(
     }
 }
 
-/// The first ground method that fits the line. `None` where none does.
+/// The first ground method that fits the line of a decomposed task. `None` where none does.
 fn split_fit<'a>(
     alloc: Global,
     world: &World<'_>,

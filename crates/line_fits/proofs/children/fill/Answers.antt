@@ -11,18 +11,22 @@ loop-place-init c = subst (λ items. AreWorksAt c.args.lines.now [] (said_works 
 
 pub returns-in-None : goal.returns-in-None
 returns-in-None c others are =
-    let at = slice_get-get_or c.args.places.now c.loop-place.place-index 0 c.loop-place-test.true in
-    let (w, there, is) = from_left (IsWorkAt c.args.lines.now) c.args.places.now others are c.loop-place.place-index
-    (slice_index c.args.places.now c.loop-place.place-index) at in
+    let places = c.args.places.now in
+    let i = c.loop-place.place-index in
+    let at = slice_get-get_or places i 0 c.loop-place-test.true in
+    let (w, there, is) = from_left (IsWorkAt c.args.lines.now) places others are i (slice_index places i) at in
     c.in-None.ensures w is
 
 pub loop-place-preserved : goal.loop-place-preserved
 loop-place-preserved c =
-    let at = slice_get-get_or c.args.places.now c.loop-place.place-index 0 c.loop-place-test.true in
-    let next = pair_next (IsWorkAt c.args.lines.now) c.args.places.now (said_works c.loop-place.said.items) c.loop-place.place-index
-    (slice_index c.args.places.now c.loop-place.place-index) (said_work c.in-Some.subtask) c.loop-place.invariant at c.in-Some.ensures in
-    let items = ap said_works c.in_ok-push-in-Some.ensures.items ∙ map-append said_work c.loop-place.said.items (c.in-Some.subtask ∷ []) in
-    subst (AreWorksAt c.args.lines.now _) (sym items) next
+    let places = c.args.places.now in
+    let i = c.loop-place.place-index in
+    let said = c.loop-place.said.items in
+    let at = slice_get-get_or places i 0 c.loop-place-test.true in
+    let next = pair_next (IsWorkAt c.args.lines.now) places (said_works said) i (slice_index places i) (said_work c.in-Some.subtask)
+    c.loop-place.invariant at c.in-Some.ensures in
+    let pushed = ap said_works c.in_ok-push-in-Some.ensures.items ∙ map-append said_work said (c.in-Some.subtask ∷ []) in
+    subst (AreWorksAt c.args.lines.now _) (sym pushed) next
 
 pub returns : goal.returns
 returns c =
