@@ -31,7 +31,8 @@ module _ (ids : List ℕ) (id : ℕ) (old new : LinePlaces) (is : ArePlacesOf id
   before other place e = get_left ids (id ∷ []) place other e
 
   -- it stands at an earlier place or at the last
-  earlier_or_last : (other place : ℕ) → IsAtPlace (ids ++ id ∷ []) place other → IsAtPlace ids place other ⊎ ((place ≡ length ids) × (id ≡ other))
+  earlier_or_last : (other place : ℕ) → IsAtPlace (ids ++ id ∷ []) place other
+      → IsAtPlace ids place other ⊎ ((place ≡ length ids) × (id ≡ other))
   earlier_or_last other place e = elim (get_cases ids (id ∷ []) place other e) [ inl h ↦ inl h.1 | inr h ↦ inr (last h.0 h.1 h.2) ]
     where
       last : (j : ℕ) → place ≡ length ids + j → slice_get (id ∷ []) j ≡ Some other → (place ≡ length ids) × (id ≡ other)
@@ -53,7 +54,8 @@ module _ (ids : List ℕ) (id : ℕ) (old new : LinePlaces) (is : ArePlacesOf id
   }
 
   -- its place is kept beside
-  pub placed_beside : ((n : ℕ) → get nat_cmp new.others n ≡ cond (eq_by_cmp nat_cmp id n) (Some (length old.ids)) (get nat_cmp old.others n))
+  pub placed_beside : ((n : ℕ)
+      → get nat_cmp new.others n ≡ cond (eq_by_cmp nat_cmp id n) (Some (length old.ids)) (get nat_cmp old.others n))
       → ArePlacesOf (ids ++ id ∷ []) new
   placed_beside put = record { are = now; kept = kept; all = all }
     where

@@ -27,9 +27,10 @@ use Rattle.numbered_lines.specs.Numbered.{AreSaid, IsTheMethod}
 use Rattle.numbered_lines.specs.WordNumbers.{action_names, task_names, object_names, AreObjects, IsTheThing}
 use Rattle.numbered_lines.specs.declared.lines.Said.{Said}
 
--- what is found by the words of the table, under another name
-pub found_by : (words table : List (List ℕ)) (places : List (Option ℕ)) (given word : List ℕ) (found : Option ℕ) (names : List Name) → words ≡ table
-    → given ≡ word → Finds words places given found → ArePlaces (length table) names places → IsThePlace table names word found
+-- what is found for an equal word in an equal table
+pub found_by : (words table : List (List ℕ)) (places : List (Option ℕ)) (given word : List ℕ) (found : Option ℕ)
+    (names : List Name)
+    → words ≡ table → given ≡ word → Finds words places given found → ArePlaces (length table) names places → IsThePlace table names word found
 found_by words table places given word found names e f h =
     subst (λ (t : List (List ℕ)). ArePlaces (length t) names places → IsThePlace t names word found) e
     (λ are. subst (λ w. IsThePlace words names w found) f (h names are))
@@ -70,7 +71,8 @@ module _ (c : Compiled) where
       let (x, at, w) = says (λ (x : Object). x.name) c.hddl.objects word o h in
       ((x, at), ap (object_name_by c) at ∙ w)
 
-  object_had : (word : List ℕ) (o : ℕ) → 0 < length word → IsThere c o → object_name c o ≡ word → HasWordAt c.hddl.names (object_names c) word o
+  object_had : (word : List ℕ) (o : ℕ) → 0 < length word → IsThere c o → object_name c o ≡ word
+      → HasWordAt c.hddl.names (object_names c) word o
   object_had word o some (x, at) e =
       has_word (λ (x : Object). x.name) c.hddl.objects word some o (x, at, sym (ap (object_name_by c) at) ∙ e)
 
@@ -122,11 +124,13 @@ module _ (c : Compiled) where
       )
 
   -- a method stands behind the top one
-  behind_top : (plans : List MethodPlan) (k : ℕ) (plan : MethodPlan) → slice_get (others plans) k ≡ Some plan → slice_get plans (suc k) ≡ Some plan
+  behind_top : (plans : List MethodPlan) (k : ℕ) (plan : MethodPlan) → slice_get (others plans) k ≡ Some plan
+      → slice_get plans (suc k) ≡ Some plan
   behind_top [] k plan e = absurd cc
   behind_top (top ∷ plans) k plan e = e
 
-  beside_top : (plans : List MethodPlan) (k : ℕ) (plan : MethodPlan) → slice_get plans (suc k) ≡ Some plan → slice_get (others plans) k ≡ Some plan
+  beside_top : (plans : List MethodPlan) (k : ℕ) (plan : MethodPlan) → slice_get plans (suc k) ≡ Some plan
+      → slice_get (others plans) k ≡ Some plan
   beside_top [] k plan e = absurd cc
   beside_top (top ∷ plans) k plan e = e
 
@@ -136,7 +140,8 @@ module _ (c : Compiled) where
       (plan, beside_top c.methods k plan (subst (λ n. slice_get c.methods n ≡ Some plan) e at), w)
       )
 
-  pub method_behind : (word : List ℕ) (k m : ℕ) → m ≡ suc k → IsThePlace c.hddl.names (other_names c) word (Some k) → IsTheMethod c word (Some m)
+  pub method_behind : (word : List ℕ) (k m : ℕ) → m ≡ suc k → IsThePlace c.hddl.names (other_names c) word (Some k)
+      → IsTheMethod c word (Some m)
   method_behind word k m e h =
       let (plan, at, w) = says (λ (x : MethodPlan). x.schema.name) (others c.methods) word k h in
       (k, e, (plan, subst (λ n. slice_get c.methods n ≡ Some plan) (sym e) (behind_top c.methods k plan at), w))

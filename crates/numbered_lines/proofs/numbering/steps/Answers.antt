@@ -20,7 +20,8 @@ action-requires c =
     let i = c.loop-line.line-index in
     let line = c.line-item.result in
     record {
-      printable = each_at IsPrintableLine lines i line (subst (EachIs IsPrintableLine) (sym c.as_slice-line-items.ensures.items) c.requires.printable)
+      printable = each_at IsPrintableLine lines i line
+          (subst (EachIs IsPrintableLine) (sym c.as_slice-line-items.ensures.items) c.requires.printable)
           (slice_get_read lines (length lines) i line refl c.loop-line-test.true c.line-item.is);
     }
 

@@ -22,14 +22,15 @@ pub loop-id-preserved : goal.loop-id-preserved
 loop-id-preserved c =
     let ids = c.as_slice-id-items.result.now in
     let i = c.loop-id.id-index in
-    made_next (λ (id place : ℕ). IsAtPlace c.args.self.now.ids place id) ids i (slice_index ids i) c.loop-id.places c.push.new.self c.find.result
-    (slice_get-get_or ids i 0 c.loop-id-test.true) c.in_ok-push.ensures.pushed c.find.ensures.place c.loop-id.invariant
+    made_next (λ (id place : ℕ). IsAtPlace c.args.self.now.ids place id) ids i (slice_index ids i) c.loop-id.places c.push.new.self
+    c.find.result (slice_get-get_or ids i 0 c.loop-id-test.true) c.in_ok-push.ensures.pushed c.find.ensures.place c.loop-id.invariant
 
 pub returns : goal.returns
 returns c =
     let ids = c.as_slice-id-items.result.now in
+    let places = c.loop-id.places in
+    let Stands = λ (id place : ℕ). IsAtPlace c.args.self.now.ids place id in
     record {
-      places = subst (λ (z : List ℕ). Together (IsAtPlace c.args.self.now.ids) c.loop-id.places z) c.as_slice-id-items.ensures.items
-          (together_back (λ (id place : ℕ). IsAtPlace c.args.self.now.ids place id) ids c.loop-id.places
-          (made_all (λ (id place : ℕ). IsAtPlace c.args.self.now.ids place id) ids c.loop-id.id-index c.loop-id.places c.loop-id-test.false c.loop-id.invariant));
+      places = subst (λ (z : List ℕ). Together (IsAtPlace c.args.self.now.ids) places z) c.as_slice-id-items.ensures.items
+          (together_back Stands ids places (made_all Stands ids c.loop-id.id-index places c.loop-id-test.false c.loop-id.invariant));
     }

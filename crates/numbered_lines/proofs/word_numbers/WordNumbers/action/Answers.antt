@@ -14,8 +14,8 @@ returns c =
     let line = c.args.line.now in
     record {
       action = IfOk-weaker c.thing.result
-          (λ (found : Option Said). (p : Compiled) (names : List Name) → AreNumbersOf p c.args.self.now → StandAt p names c.args.self.now.actions
-          → IsTheThing p names line found)
+          (λ (found : Option Said). (p : Compiled) (names : List Name) → AreNumbersOf p c.args.self.now
+          → StandAt p names c.args.self.now.actions → IsTheThing p names line found)
           (λ (found : Option Said). (p : Compiled) → AreNumbersOf p c.args.self.now → AreSaid p action line found)
           (λ found h p are. action_said p line found c.requires.printable (h p (action_names p) are are.actions)) c.thing.ensures;
     }

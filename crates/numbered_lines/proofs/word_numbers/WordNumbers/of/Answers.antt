@@ -23,13 +23,13 @@ returns c =
     record {
       numbers = record {
         words = c.in_ok-words.ensures.words ∙ c.in_ok-table.ensures.words;
-        actions = stand (λ (a : ActionSchema). a.name) n (length h.names) c.as_slice.result.now h.actions c.in_ok-actions.actions.by_name.items
-            count c.as_slice.ensures.items c.in_ok-actions.ensures.places;
-        tasks = stand (λ (t : TaskSchema). t.name) n (length h.names) c.as_slice-2.result.now h.tasks c.in_ok-tasks.tasks.by_name.items
-            count c.as_slice-2.ensures.items c.in_ok-tasks.ensures.places;
-        methods = stand (λ (m : MethodPlan). m.schema.name) n (length h.names) (take (length methods - 1) (drop 1 methods)) (others c.args.c.now.methods)
-            c.in_ok-methods.methods.by_name.items count is c.in_ok-methods.ensures.places;
-        objects = stand (λ (o : Object). o.name) n (length h.names) c.as_slice-4.result.now h.objects c.in_ok-objects.objects.by_name.items
-            count c.as_slice-4.ensures.items c.in_ok-objects.ensures.places;
+        actions = stand (λ (a : ActionSchema). a.name) n (length h.names) c.as_slice.result.now h.actions
+            c.in_ok-actions.actions.by_name.items count c.as_slice.ensures.items c.in_ok-actions.ensures.places;
+        tasks = stand (λ (t : TaskSchema). t.name) n (length h.names) c.as_slice-2.result.now h.tasks
+            c.in_ok-tasks.tasks.by_name.items count c.as_slice-2.ensures.items c.in_ok-tasks.ensures.places;
+        methods = stand (λ (m : MethodPlan). m.schema.name) n (length h.names) (take (length methods - 1) (drop 1 methods))
+            (others c.args.c.now.methods) c.in_ok-methods.methods.by_name.items count is c.in_ok-methods.ensures.places;
+        objects = stand (λ (o : Object). o.name) n (length h.names) c.as_slice-4.result.now h.objects
+            c.in_ok-objects.objects.by_name.items count c.as_slice-4.ensures.items c.in_ok-objects.ensures.places;
       };
     }

@@ -14,8 +14,8 @@ returns c =
     let line = c.args.line.now in
     record {
       task = IfOk-weaker c.thing.result
-          (λ (found : Option Said). (p : Compiled) (names : List Name) → AreNumbersOf p c.args.self.now → StandAt p names c.args.self.now.tasks
-          → IsTheThing p names line found)
+          (λ (found : Option Said). (p : Compiled) (names : List Name) → AreNumbersOf p c.args.self.now
+          → StandAt p names c.args.self.now.tasks → IsTheThing p names line found)
           (λ (found : Option Said). (p : Compiled) → AreNumbersOf p c.args.self.now → AreSaid p task line found)
           (λ found h p are. task_said p line found c.requires.printable (h p (task_names p) are are.tasks)) c.thing.ensures;
     }
