@@ -5,8 +5,10 @@
 //! above: `numbered` gives the numbers of a plan's lines, and none where a word is of nothing in the problem.
 #![tactic(auto)]
 
+mod line_places;
 mod lines;
 mod numbering;
+mod word_numbers;
 
 pub use lines::{Lines, Said, Split};
 pub use numbering::numbered;
