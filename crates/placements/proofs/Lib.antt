@@ -1,0 +1,2 @@
+pub mod PlacedPlans
+pub mod RefusedPlans
