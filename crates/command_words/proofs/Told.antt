@@ -10,9 +10,9 @@ use Rattle.std.proofs.Math.Seq.{drop-append_seam}
 use Rattle.std.proofs.lemmas.Slice.Eq.{bytes_eq-Decides}
 use Rattle.command_words.specs.Names.{Word, Names, AreApart}
 use Rattle.command_words.specs.Bounds.{IsNumeral}
-use Rattle.command_words.specs.Forms.{Row, said, AreOptions, AreOf, translation_form, bound_form, decode_form, validation_form}
+use Rattle.command_words.specs.Forms.{Row, said, AreOptions, AreOf, translation_form, bound_form, decode_form, encode_form, validation_form}
 use Rattle.command_words.specs.Options.{AreSlots, slots_said, style_said, checks_said}
-use Rattle.command_words.specs.Words.{TranslationRequest, BoundRequest, DecodeRequest, ValidationRequest, to_translate, to_bound, to_decode, to_validate, AskBy, SayTranslation, SayBound, SayDecode, SayValidation, AsksTranslation, AsksBound, AsksDecode, AsksValidation, AreOfAForm}
+use Rattle.command_words.specs.Words.{TranslationRequest, BoundRequest, DecodeRequest, EncodeRequest, ValidationRequest, to_translate, to_bound, to_decode, to_encode, to_validate, AskBy, SayTranslation, SayBound, SayDecode, SayEncode, SayValidation, AsksTranslation, AsksBound, AsksDecode, AsksEncode, AsksValidation, AreOfAForm}
 use Rattle.command_words.proofs.Said.{among_told}
 use Rattle.command_words.proofs.Requests.{not_said, no_form}
 
@@ -182,6 +182,28 @@ module _ (options : List Word) where
   decode_told (d ∷ p ∷ s ∷ []) = decode_of_three d p s
   decode_told (d ∷ p ∷ s ∷ x ∷ names) = inr (not_files (d ∷ p ∷ s ∷ x ∷ names) (λ e. omega (arith, e)))
 
+  encode_of_three : (d p s : Word) → SaysTold SayEncode (d ∷ p ∷ s ∷ []) options
+  encode_of_three d p s = go (slots_told (slots_said options)) (value_told (checks_said options))
+    where
+      go : Or_not (AreSlots (slots_said options)) → ((v : _) × (checks_said options ≡ Some v)) ⊎ ((v : _) → checks_said options ≡ Some v → ⊥)
+          → SaysTold SayEncode (d ∷ p ∷ s ∷ []) options
+      go (inl m) (inl c) = inl (
+        record { domain = d; problem = p; hplan = s; numeral = slots_said options; checks = c.0 },
+        record { files = refl; numeral = refl; slots = m; checks = c.1 },
+      )
+      go (inr m) c = inr (λ r a. m (subst AreSlots a.numeral a.slots))
+      go (inl m) (inr n) = inr (λ r a. n r.checks a.checks)
+
+  not_inputs : (names : List Word) → (length names ≡ 3 → ⊥) → (r : EncodeRequest) → SayEncode names options r → ⊥
+  not_inputs names l r a = l (ap length a.files)
+
+  encode_told : (names : List Word) → SaysTold SayEncode names options
+  encode_told [] = inr (not_inputs [] (λ e. omega (arith, e)))
+  encode_told (d ∷ []) = inr (not_inputs (d ∷ []) (λ e. omega (arith, e)))
+  encode_told (d ∷ p ∷ []) = inr (not_inputs (d ∷ p ∷ []) (λ e. omega (arith, e)))
+  encode_told (d ∷ p ∷ s ∷ []) = encode_of_three d p s
+  encode_told (d ∷ p ∷ s ∷ x ∷ names) = inr (not_inputs (d ∷ p ∷ s ∷ x ∷ names) (λ e. omega (arith, e)))
+
   not_three : (names : List Word) → (length names ≡ 3 → ⊥) → (r : ValidationRequest) → SayValidation names options r → ⊥
   not_three names l r a = l (ap length a.files)
 
@@ -198,14 +220,17 @@ FormTold words = AreOfAForm words ⊎ (AreOfAForm words → ⊥)
 pub form_told : (words : List Word) → FormTold words
 form_told words =
     go (told_by translation_form SayTranslation (λ n o. translation_told o n) words) (told_by bound_form SayBound (λ n o. bound_told o n) words)
-    (told_by decode_form SayDecode (λ n o. decode_told o n) words) (told_by validation_form SayValidation (λ n o. validation_told o n) words)
+    (told_by decode_form SayDecode (λ n o. decode_told o n) words) (told_by encode_form SayEncode (λ n o. encode_told o n) words)
+    (told_by validation_form SayValidation (λ n o. validation_told o n) words)
   where
     go : ((r : TranslationRequest) × AsksTranslation words r) ⊎ ((r : TranslationRequest) → AsksTranslation words r → ⊥)
         → ((r : BoundRequest) × AsksBound words r) ⊎ ((r : BoundRequest) → AsksBound words r → ⊥)
         → ((r : DecodeRequest) × AsksDecode words r) ⊎ ((r : DecodeRequest) → AsksDecode words r → ⊥)
+        → ((r : EncodeRequest) × AsksEncode words r) ⊎ ((r : EncodeRequest) → AsksEncode words r → ⊥)
         → ((r : ValidationRequest) × AsksValidation words r) ⊎ ((r : ValidationRequest) → AsksValidation words r → ⊥) → FormTold words
-    go (inl (r, a)) b c d = inl (to_translate r, a)
-    go (inr n) (inl (r, a)) c d = inl (to_bound r, a)
-    go (inr n) (inr m) (inl (r, a)) d = inl (to_decode r, a)
-    go (inr n) (inr m) (inr k) (inl (r, a)) = inl (to_validate r, a)
-    go (inr n) (inr m) (inr k) (inr l) = inr (no_form words n m k l)
+    go (inl (r, a)) b c d e = inl (to_translate r, a)
+    go (inr n) (inl (r, a)) c d e = inl (to_bound r, a)
+    go (inr n) (inr m) (inl (r, a)) d e = inl (to_decode r, a)
+    go (inr n) (inr m) (inr k) (inl (r, a)) e = inl (to_encode r, a)
+    go (inr n) (inr m) (inr k) (inr l) (inl (r, a)) = inl (to_validate r, a)
+    go (inr n) (inr m) (inr k) (inr l) (inr j) = inr (no_form words n m k l j)

@@ -26,6 +26,9 @@ bound_form = record { command = codes "bound"; names = 2; options = codes "--che
 abbrev pub decode_form : Row
 decode_form = record { command = codes "decode"; names = 3; options = codes "--bound" ∷ codes "--checks" ∷ [] }
 
+abbrev pub encode_form : Row
+encode_form = record { command = codes "encode"; names = 3; options = codes "--bound" ∷ codes "--checks" ∷ [] }
+
 abbrev pub validation_form : Row
 validation_form = record { command = codes "validate"; names = 3; options = [] }
 

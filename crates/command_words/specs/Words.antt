@@ -6,13 +6,14 @@ use Rattle.plan_model.specs.declared.options.Checks.{Checks}
 use Rattle.command_words.specs.declared.asking.Translation.{Translation}
 use Rattle.command_words.specs.declared.asking.Bounding.{Bounding}
 use Rattle.command_words.specs.declared.asking.Decoding.{Decoding}
+use Rattle.command_words.specs.declared.asking.Encoding.{Encoding}
 use Rattle.command_words.specs.declared.asking.Validation.{Validation}
 use Rattle.command_words.specs.declared.asking.Asked.{Asked}
 use Rattle.command_words.specs.declared.asking.Asked.TheVariants as asked
 use Rattle.command_words.specs.declared.commands.Command.{Command}
-use Rattle.command_words.specs.declared.commands.Command.TheVariants.{Translate, Bound, Decode, Validate}
+use Rattle.command_words.specs.declared.commands.Command.TheVariants.{Translate, Bound, Decode, Encode, Validate}
 use Rattle.command_words.specs.Names.{Word, Names, names_of, names_in, AreApart}
-use Rattle.command_words.specs.Forms.{Row, AreOf, translation_form, bound_form, decode_form, validation_form}
+use Rattle.command_words.specs.Forms.{Row, AreOf, translation_form, bound_form, decode_form, encode_form, validation_form}
 use Rattle.command_words.specs.Options.{AreSlots, slots_said, style_said, checks_said}
 
 -- a translation that is asked for: its files, the numeral of its slots where one is given, its style, and how preconditions of methods
@@ -38,6 +39,15 @@ pub record DecodeRequest : Type 0 where
   pub numeral : Option Word
   pub checks : Checks
 
+-- an encoding that is asked for: the HDDL texts and the hierarchical plan, which are read, the numeral of the slots where one is given,
+-- and how preconditions of methods are checked
+pub record EncodeRequest : Type 0 where
+  pub domain : Word
+  pub problem : Word
+  pub hplan : Word
+  pub numeral : Option Word
+  pub checks : Checks
+
 -- a validation that is asked for: the PDDL texts and the plan, which are read
 pub record ValidationRequest : Type 0 where
   pub domain : Word
@@ -48,6 +58,7 @@ pub data Request : Type 0 where
   to_translate : TranslationRequest → Request
   to_bound : BoundRequest → Request
   to_decode : DecodeRequest → Request
+  to_encode : EncodeRequest → Request
   to_validate : ValidationRequest → Request
 
 -- words of a form, of which the names and the options say a request
@@ -73,6 +84,12 @@ pub record SayDecode (names options : List Word) (request : DecodeRequest) : Typ
   pub slots : AreSlots request.numeral
   pub checks : checks_said options ≡ Some request.checks
 
+pub record SayEncode (names options : List Word) (request : EncodeRequest) : Type 0 where
+  pub files : names ≡ request.domain ∷ request.problem ∷ request.hplan ∷ []
+  pub numeral : request.numeral ≡ slots_said options
+  pub slots : AreSlots request.numeral
+  pub checks : checks_said options ≡ Some request.checks
+
 pub record SayValidation (names options : List Word) (request : ValidationRequest) : Type 0 where
   pub files : names ≡ request.domain ∷ request.problem ∷ request.plan ∷ []
 
@@ -86,6 +103,9 @@ AsksBound = AskBy bound_form SayBound
 abbrev pub AsksDecode : List Word → DecodeRequest → Type 0
 AsksDecode = AskBy decode_form SayDecode
 
+abbrev pub AsksEncode : List Word → EncodeRequest → Type 0
+AsksEncode = AskBy encode_form SayEncode
+
 abbrev pub AsksValidation : List Word → ValidationRequest → Type 0
 AsksValidation = AskBy validation_form SayValidation
 
@@ -93,6 +113,7 @@ abbrev pub Asks : List Word → Request → Type 0
 Asks words (to_translate request) = AsksTranslation words request
 Asks words (to_bound request) = AsksBound words request
 Asks words (to_decode request) = AsksDecode words request
+Asks words (to_encode request) = AsksEncode words request
 Asks words (to_validate request) = AsksValidation words request
 
 -- the words are of a command's form
@@ -114,6 +135,9 @@ bound_of b = record { domain = b.d.now; problem = b.p.now; checks = b.checks }
 abbrev pub decode_of : Decoding → DecodeRequest
 decode_of d = record { domain = d.d.now; problem = d.p.now; plan = d.plan.now; numeral = option_copied d.numeral; checks = d.checks }
 
+abbrev pub encode_of : Encoding → EncodeRequest
+encode_of e = record { domain = e.d.now; problem = e.p.now; hplan = e.hplan.now; numeral = option_copied e.numeral; checks = e.checks }
+
 abbrev pub validation_of : Validation → ValidationRequest
 validation_of v = record { domain = v.pd.now; problem = v.pp.now; plan = v.plan.now }
 
@@ -121,6 +145,7 @@ abbrev pub request_of : Asked → Request
 request_of (asked.Translation t) = to_translate (translation_of t)
 request_of (asked.Bound b) = to_bound (bound_of b)
 request_of (asked.Decoding d) = to_decode (decode_of d)
+request_of (asked.Encoding e) = to_encode (encode_of e)
 request_of (asked.Validation v) = to_validate (validation_of v)
 
 -- the words ask for this command
@@ -135,4 +160,6 @@ AskFor words (Translate d p od op bound style checks) =
 AskFor words (Bound d p checks) = AsksBound words record { domain = d.now; problem = p.now; checks = checks }
 AskFor words (Decode d p plan bound checks) =
     AsksDecode words record { domain = d.now; problem = p.now; plan = plan.now; numeral = option_copied bound; checks = checks }
+AskFor words (Encode d p hplan bound checks) =
+    AsksEncode words record { domain = d.now; problem = p.now; hplan = hplan.now; numeral = option_copied bound; checks = checks }
 AskFor words (Validate pd pp plan) = AsksValidation words record { domain = pd.now; problem = pp.now; plan = plan.now }

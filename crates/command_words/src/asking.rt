@@ -7,6 +7,7 @@ pub enum Asked<'a> {
     Translation(Translation<'a>),
     Bound(Bounding<'a>),
     Decoding(Decoding<'a>),
+    Encoding(Encoding<'a>),
     Validation(Validation<'a>),
 }
 
@@ -35,6 +36,17 @@ pub struct Decoding<'a> {
     pub d: &'a str,
     pub p: &'a str,
     pub plan: &'a str,
+    pub numeral: Option<&'a str>,
+    pub checks: Checks,
+}
+
+/// An encoding that is asked for: the HDDL domain and problem and the hierarchical plan, which are read, the numeral of the slots where
+/// one is given, and the checks of preconditions.
+#[derive(Clone, Copy)]
+pub struct Encoding<'a> {
+    pub d: &'a str,
+    pub p: &'a str,
+    pub hplan: &'a str,
     pub numeral: Option<&'a str>,
     pub checks: Checks,
 }

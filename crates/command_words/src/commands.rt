@@ -27,6 +27,14 @@ pub enum Command<'a> {
         bound: Option<&'a str>,
         checks: Checks,
     },
+    /// Read the HDDL domain `d` and problem `p`, and print the steps of the latest schedule of the hierarchical plan in `hplan`.
+    Encode {
+        d: &'a str,
+        p: &'a str,
+        hplan: &'a str,
+        bound: Option<&'a str>,
+        checks: Checks,
+    },
     /// Read the PDDL domain `pd` and problem `pp`, and tell whether the list in `plan` is a plan
     /// of them.
     Validate {

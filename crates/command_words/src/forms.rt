@@ -31,6 +31,12 @@ pub(crate) const DECODING: Form<'static> = Form {
     options: &["--bound", "--checks"],
 };
 
+pub(crate) const ENCODING: Form<'static> = Form {
+    command: "encode",
+    names: 3,
+    options: &["--bound", "--checks"],
+};
+
 pub(crate) const VALIDATION: Form<'static> = Form {
     command: "validate",
     names: 3,

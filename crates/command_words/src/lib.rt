@@ -12,7 +12,7 @@ mod names;
 mod options;
 mod words;
 
-pub use asking::{Asked, Bounding, Decoding, Translation, Validation};
+pub use asking::{Asked, Bounding, Decoding, Encoding, Translation, Validation};
 pub use bounds::{Bound, bound_of, comes_to};
 pub use commands::Command;
 pub use names::Named;

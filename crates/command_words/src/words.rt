@@ -1,10 +1,10 @@
 ghost use Rattle.std.specs.Prelude.{IfSome, IfNone};
 ghost use Rattle.command_words.specs.Names.{words_of};
-ghost use Rattle.command_words.specs.Words.{AreOfAForm, AskFor, Asks, AsksBound, AsksDecode, AsksTranslation, AsksValidation, BoundRequest, DecodeRequest, SayBound, SayDecode, SayTranslation, SayValidation, TranslationRequest, ValidationRequest, bound_of, decode_of, request_of, translation_of, validation_of};
+ghost use Rattle.command_words.specs.Words.{AreOfAForm, AskFor, Asks, AsksBound, AsksDecode, AsksEncode, AsksTranslation, AsksValidation, BoundRequest, DecodeRequest, EncodeRequest, SayBound, SayDecode, SayEncode, SayTranslation, SayValidation, TranslationRequest, ValidationRequest, bound_of, decode_of, encode_of, request_of, translation_of, validation_of};
 
-use crate::asking::{Asked, Bounding, Decoding, Translation, Validation};
+use crate::asking::{Asked, Bounding, Decoding, Encoding, Translation, Validation};
 use crate::commands::Command;
-use crate::forms::{BOUND, DECODING, TRANSLATION, VALIDATION, parts_of};
+use crate::forms::{BOUND, DECODING, ENCODING, TRANSLATION, VALIDATION, parts_of};
 use crate::names::{Named, are_apart};
 use crate::options::{are_slots, checks, slots, style};
 
@@ -13,7 +13,7 @@ use crate::options::{are_slots, checks, slots, style};
 ///
 /// The forms are `translate D P OD OP` with the options `--bound N`, `--style adl|flat` and
 /// `--checks leaf|atonce`, where OD and OP differ and neither is D or P, `bound D P` with the
-/// option `--checks leaf|atonce`, `decode D P PLAN` with the options `--bound N` and
+/// option `--checks leaf|atonce`, `decode D P PLAN` and `encode D P HPLAN` with the options `--bound N` and
 /// `--checks leaf|atonce`, and `validate PD PP PLAN`. Options come in any order and may be left out: the style is then
 /// `adl`, and the checks are `leaf`.
 pub fn command(words: &[String]) -> Option<Command<'_>>
@@ -42,6 +42,13 @@ pub fn command(words: &[String]) -> Option<Command<'_>>
             bound: asked.numeral,
             checks: asked.checks,
         }),
+        Asked::Encoding(asked) => Some(Command::Encode {
+            d: asked.d,
+            p: asked.p,
+            hplan: asked.hplan,
+            bound: asked.numeral,
+            checks: asked.checks,
+        }),
         Asked::Validation(asked) => Some(Command::Validate {
             pd: asked.pd,
             pp: asked.pp,
@@ -64,6 +71,9 @@ pub fn asked(words: &[String]) -> Option<Asked<'_>>
     }
     if let Some(asked) = asked_decoding(words) {
         return Some(Asked::Decoding(asked));
+    }
+    if let Some(asked) = asked_encoding(words) {
+        return Some(Asked::Encoding(asked));
     }
     let asked = asked_validation(words)?;
     Some(Asked::Validation(asked))
@@ -153,6 +163,37 @@ fn decoding<'a>(names: &'a [String], options: &'a [String]) -> Option<Decoding<'
         d: d.as_str(),
         p: p.as_str(),
         plan: plan.as_str(),
+        numeral,
+        checks: checks(options)?,
+    })
+}
+
+fn asked_encoding(words: &[String]) -> Option<Encoding<'_>>
+    ensures asked { IfSome result (λ asked. AsksEncode (words_of words.now) (encode_of asked)) }
+    ensures other { IfNone result ((request : EncodeRequest) →
+        AsksEncode (words_of words.now) request → ⊥) }
+{
+    let parts = parts_of(words, &ENCODING)?;
+    encoding(parts.names, parts.options)
+}
+
+fn encoding<'a>(names: &'a [String], options: &'a [String]) -> Option<Encoding<'a>>
+    ensures said { IfSome result (λ asked.
+        SayEncode (words_of names.now) (words_of options.now) (encode_of asked)) }
+    ensures other { IfNone result ((request : EncodeRequest) →
+        SayEncode (words_of names.now) (words_of options.now) request → ⊥) }
+{
+    let [d, p, hplan] = names else {
+        return None;
+    };
+    let numeral = slots(options);
+    if !are_slots(numeral) {
+        return None;
+    }
+    Some(Encoding {
+        d: d.as_str(),
+        p: p.as_str(),
+        hplan: hplan.as_str(),
         numeral,
         checks: checks(options)?,
     })

@@ -8,7 +8,7 @@ use Rattle.outside_io.specs.Files.{FilesState}
 use Rattle.outside_io.specs.Sink.{SinkState}
 use Rattle.decode_answers.specs.DecodeLaws.{ValuesAreDecodedAlike}
 use Rattle.command_words.specs.Names.{Word}
-use Rattle.command_words.specs.Words.{TranslationRequest, Request, to_translate, to_bound, to_decode, to_validate, number_of, Asks}
+use Rattle.command_words.specs.Words.{TranslationRequest, Request, to_translate, to_bound, to_decode, to_encode, to_validate, number_of, Asks}
 use Rattle.htn_cli.specs.Answer.{Output, refuses, gives}
 use Rattle.htn_cli.specs.Answers.{Refuses, Gives, RefusesFault, past_slots, too_large, faulty, declined, given}
 use Rattle.htn_cli.specs.Calling.{StopsGet, StopsGets, PassesInputs, StopsInputs, PassesRequest, StopsRequest}
@@ -28,6 +28,7 @@ use Rattle.htn_cli.specs.declared.refusal.Refusal.TheVariants as refused
 use Rattle.htn_cli.proofs.Endings.{no_words}
 use Rattle.htn_cli.proofs.Headlines.{come, keeps, bound_here, plan_here, finding_here}
 use Rattle.htn_cli.proofs.TreeTold.{tree_here}
+use Rattle.htn_cli.proofs.StepsTold.{steps_here}
 use Rattle.htn_cli.proofs.InputsRead.{end_large, next_longer, large_longer}
 
 -- no calls, and calls behind calls
@@ -158,6 +159,9 @@ keeps_by alike (to_bound r) (d ∷ p ∷ []) output (n, (c, source, bound), smal
 keeps_by alike (to_decode r) (d ∷ p ∷ plan ∷ []) output (c, steps, slots, text, is, has, e) out out' told =
     subst (λ (z : Output). Keeps (to_decode r) (d ∷ p ∷ plan ∷ []) z.texts out out') (sym e)
     (tree_here alike r d p plan c steps slots is text has out out' (subst (λ (z : Output). TakesWhole z.told out out') e told))
+keeps_by alike (to_encode r) (d ∷ p ∷ hplan ∷ []) output (c, plan, text, s, (width, steps, is, t), e) out out' told =
+    subst (λ (z : Output). Keeps (to_encode r) (d ∷ p ∷ hplan ∷ []) z.texts out out') (sym e)
+    (steps_here r d p hplan c plan s.spelled alike width steps is out out' (subst (λ z. TakesWhole z out out') t (subst (λ (z : Output). TakesWhole z.told out out') e told)))
 keeps_by alike (to_validate r) (pd ∷ pp ∷ plan ∷ []) output (are, e) out out' told =
     subst (λ (z : Output). Keeps (to_validate r) (pd ∷ pp ∷ plan ∷ []) z.texts out out') (sym e)
     (plan_here pd pp plan out out' are (subst (λ (z : Output). TakesWhole z.told out out') e told))

@@ -5,7 +5,7 @@ use Rattle.outside_io.specs.Count.{HasRisen}
 use Rattle.outside_io.specs.Files.{FilesState}
 use Rattle.outside_io.specs.Sink.{SinkState}
 use Rattle.command_words.specs.Names.{Word}
-use Rattle.command_words.specs.Words.{Request, to_translate, to_bound, to_decode, to_validate, Asks, AreOfAForm}
+use Rattle.command_words.specs.Words.{Request, to_translate, to_bound, to_decode, to_encode, to_validate, Asks, AreOfAForm}
 use Rattle.command_words.proofs.Requests.{one_request}
 use Rattle.htn_cli.specs.Answer.{Text, Output, Answer, refuses, gives}
 use Rattle.htn_cli.specs.Answers.{Refuses, Gives, RefusesFault, RefusesSize, IsAnswerFor, past_slots, too_large, faulty, declined, given, IsAnswer}
@@ -236,6 +236,7 @@ gives_no_text : (request : Request) → outputs_of request ≡ [] → (texts : L
 gives_no_text (to_translate r) none texts output x = absurd (cc)
 gives_no_text (to_bound r) none (d ∷ p ∷ []) output (n, has, small, e) = ap (λ (z : Output). z.texts) e
 gives_no_text (to_decode r) none (d ∷ p ∷ l ∷ []) output (c, steps, slots, text, source, have, e) = ap (λ (z : Output). z.texts) e
+gives_no_text (to_encode r) none (d ∷ p ∷ l ∷ []) output (c, plan, text, source, is, e) = ap (λ (z : Output). z.texts) e
 gives_no_text (to_validate r) none (d ∷ p ∷ l ∷ []) output (are, e) = ap (λ (z : Output). z.texts) e
 gives_no_text _ none texts output x = absurd x
 
@@ -330,6 +331,7 @@ never_words : (request : Request) (texts : List (List ℕ)) → Refuses request 
 never_words (to_translate r) (d ∷ p ∷ []) x = x
 never_words (to_bound r) (d ∷ p ∷ []) x = x
 never_words (to_decode r) (d ∷ p ∷ l ∷ []) x = x
+never_words (to_encode r) (d ∷ p ∷ l ∷ []) x = x
 never_words (to_validate r) (d ∷ p ∷ l ∷ []) x = x
 never_words _ _ x = x
 

@@ -20,11 +20,12 @@ use Rattle.plan_proof.proofs.values.Headlines.{headline_of, headline_at_bound_of
 use Rattle.plan_proof.proofs.machine.Bounds.{loses_nothing}
 use Rattle.decode_answers.specs.DecodeLaws.{ValuesAreDecodedAlike}
 use Rattle.command_words.specs.Names.{Word}
-use Rattle.command_words.specs.Words.{TranslationRequest, BoundRequest, Request, to_translate, to_bound, to_decode, to_validate, Asks}
+use Rattle.command_words.specs.Words.{TranslationRequest, BoundRequest, Request, to_translate, to_bound, to_decode, to_encode, to_validate, Asks}
 use Rattle.htn_cli.specs.Answer.{Output, Answer, refuses, gives}
 use Rattle.htn_cli.specs.Answers.{Refuses, Gives, RefusesSize, RefusesFault, IsAnswerFor, past_slots, too_large, faulty, declined, given}
 use Rattle.htn_cli.specs.Bounding.{GivesBound}
 use Rattle.htn_cli.specs.Decoding.{GivesTree}
+use Rattle.htn_cli.specs.Encoding.{GivesSteps}
 use Rattle.htn_cli.specs.Ending.{Achieves, IsDone, IsRefused}
 use Rattle.htn_cli.specs.Inputs.{AreGot, AreWhole}
 use Rattle.htn_cli.specs.Left.{Stand}
@@ -42,6 +43,7 @@ use Rattle.htn_cli.specs.promise.Headline.{KeepsPlans, HasHeadline}
 use Rattle.htn_cli.specs.promise.Bound.{TellsBound, HasBound}
 use Rattle.htn_cli.specs.promise.Plan.{TellsPlan, HasPlan}
 use Rattle.htn_cli.specs.promise.Tree.{TellsTree, HasTree}
+use Rattle.htn_cli.specs.promise.Steps.{TellsSteps, HasSteps}
 use Rattle.htn_cli.specs.promise.Finding.{TellsFailure, TellsFinding, HasFinding}
 use Rattle.htn_cli.specs.declared.status.Status.TheVariants as status
 use Rattle.htn_cli.specs.declared.refusal.Failure.TheVariants as failure
@@ -53,6 +55,7 @@ use Rattle.htn_cli.proofs.Endings.{asked_left, asked_done}
 use Rattle.htn_cli.proofs.Validations.{sound_apart}
 use Rattle.htn_cli.proofs.EachProblem.{slots_given, slots_computed, bound_of_each, cycle_of_each, faithful_of_each}
 use Rattle.htn_cli.proofs.TreeTold.{tree_here, none_here}
+use Rattle.htn_cli.proofs.StepsTold.{steps_here, no_steps_here}
 
 -- The texts of a translation, and its number of slots.
 module _ (request : TranslationRequest) (d p : List ℕ) (out out' : SinkState) (texts : Texts) (slots : ℕ) (written : AreWritten request d p texts slots) where
@@ -137,6 +140,7 @@ finding_here alike (to_decode r) (d ∷ p ∷ plan ∷ []) (finding.NotTailRecur
     inl (none, cycle_of_each d p r.checks c spelled.spelled.problem_is words named err err' line)
 finding_here alike (to_decode r) (d ∷ p ∷ plan ∷ []) (finding.SpellsNoSolution step why) (c, steps, slots, is, fails) err err' line =
     inr (none_here alike r d p plan c steps slots is step why fails err err' line)
+finding_here alike (to_encode r) (d ∷ p ∷ hplan ∷ []) f (c, plan, s, is) err err' line = no_steps_here r d p hplan c plan s.spelled f is err err' line
 finding_here alike (to_validate r) (pd ∷ pp ∷ plan ∷ []) (finding.NotAPlan step why) x err err' line = failure_here pd pp plan step why err err' line x
 finding_here alike _ _ f x err err' line = absurd x
 
@@ -242,6 +246,15 @@ module _ (words : List Word) (files files' : FilesState) (out out' : SinkState) 
       go a (c, steps, slots, text, is, has, e) =
           let line : TakesWhole text out out' = subst (λ (z : Output). TakesWhole z.told out out') e a.stands.1 in
           tree_here alike r d p plan c steps slots is text has out out' line
+
+  pub steps_done : ValuesAreDecodedAlike → HasSteps words files out out'
+  steps_done alike r d p hplan asked read =
+      go (achieved (to_encode r) asked (d ∷ p ∷ hplan ∷ []) read) (gives_here (to_encode r) asked (d ∷ p ∷ hplan ∷ []) read)
+    where
+      go : (a : Achieves files files' out out' (to_encode r)) → GivesSteps r d p hplan a.output → TellsSteps r d p hplan out out'
+      go a (c, plan, text, s, (width, steps, is, t), e) =
+          let told : TakesWhole text out out' = subst (λ (z : Output). TakesWhole z.told out out') e a.stands.1 in
+          steps_here r d p hplan c plan s.spelled alike width steps is out out' (subst (λ z. TakesWhole z out out') t told)
 
 -- a finding that was told, and no other refusal has this status
 pub finding_refused : (alike : ValuesAreDecodedAlike) (words : List Word) (files files' : FilesState) (out out' : SinkState) (refusal : Refusal) → IsRefused words files files' out out' refusal → status_of refusal ≡ status.Finding → (err err' : SinkState) → Told (line_of refusal) err err'

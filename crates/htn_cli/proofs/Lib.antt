@@ -7,11 +7,13 @@ pub mod Printed
 pub mod Puts
 pub mod Leavings
 pub mod Decodings
+pub mod Encodings
 pub mod Validations
 pub mod SameCycles
 pub mod Endings
 pub mod EachProblem
 pub mod TreeTold
+pub mod StepsTold
 pub mod Headlines
 pub mod CallsMade
 pub mod examples

@@ -1,25 +1,29 @@
 -- Texts have one least fault, and so one refusal for it.
-use Rattle.std.proofs.Common.{ℕ, nat_eq, ◌≡◌, if◌then◌else◌, List, [], ◌∷◌, ◌++◌, codes, decimal, Option, Some, slice_get, refl, sym, ap, ◌∙◌}
-use Rattle.text_forms.specs.Faults.{fault}
+use Rattle.std.proofs.Common.{ℕ, nat_eq, ◌≡◌, ◌<◌, ◌≤◌, ◌⊎◌, if◌then◌else◌, List, [], ◌∷◌, ◌++◌, codes, decimal, Option, Some, slice_get, refl, sym, ap, ◌∙◌, subst, inl, inr, arith}
+use Rattle.std.proofs.lemmas.Bool.{cases_lt}
+use Rattle.text_forms.specs.Faults.{Fault, fault, IsBefore}
 use Rattle.hddl_reader.specs.declared.sections.Language.{Language}
 use Rattle.hddl_reader.specs.declared.sections.Language.TheVariants as language
 use Rattle.plan_model.specs.declared.steps.GroundAction.{GroundAction}
 use Rattle.plan_model.specs.declared.values.Compiled.{Compiled}
 use Rattle.plan_model.specs.declared.values.Pddl.{Pddl}
-use Rattle.plan_text.specs.Plans.{IsPlanRead}
+use Rattle.plan_text.specs.Plans.{IsPlanFault, IsPlanRead}
+use Rattle.hplan_text.specs.declared.values.HPlan.{HPlan}
+use Rattle.hplan_text.specs.HPlanFaults as hplans
 use Rattle.text_values.specs.FaultWords.{fault_word}
 use Rattle.text_values.specs.TextFaults.{HaveNoFault}
 use Rattle.text_values.proofs.OneFault.{have_one_fault, has_one_plan_fault}
 use Rattle.command_words.specs.Names.{Word}
-use Rattle.command_words.specs.Words.{DecodeRequest, Request, to_translate, to_bound, to_decode, to_validate}
+use Rattle.command_words.specs.Words.{DecodeRequest, EncodeRequest, Request, to_translate, to_bound, to_decode, to_encode, to_validate}
 use Rattle.htn_cli.specs.Answer.{Output, refuses}
 use Rattle.htn_cli.specs.Answers.{IsLeastOf, Refuses, Gives, RefusesFault}
 use Rattle.htn_cli.specs.Decoding.{SpellSteps}
+use Rattle.htn_cli.specs.Encoding.{SpellHPlan}
 use Rattle.htn_cli.specs.Faults.{IsFaultAt, limit_code, place_text, fault_text}
 use Rattle.htn_cli.specs.OneAnswer.{TellTheSame}
 use Rattle.htn_cli.specs.Refusal.{counted_word}
 use Rattle.htn_cli.specs.Requests.{inputs_of}
-use Rattle.htn_cli.specs.LeastFaults.{IsLeastWithPlan, of_problem, of_third}
+use Rattle.htn_cli.specs.LeastFaults.{IsLeastOfThree, IsLeastWithPlan, IsLeastWithHPlan, of_problem, of_third}
 use Rattle.htn_cli.specs.Validation.{Spell}
 use Rattle.htn_cli.specs.declared.faults.Counted.{Counted}
 use Rattle.htn_cli.specs.declared.faults.Counted.TheVariants.{Depth, Subtasks, Types}
@@ -51,18 +55,55 @@ counted_back Types = refl
 one_counted : (one other : Counted) → limit_code one ≡ limit_code other → one ≡ other
 one_counted one other e = sym (counted_back one) ∙ ap counted_by e ∙ counted_back other
 
--- of three texts
-module _ (l : Language) (domain problem plan : List ℕ) where
-  one_of_three : (file code at : ℕ) → IsLeastWithPlan l domain problem plan file code at → (other more place : ℕ) → IsLeastWithPlan l domain problem plan other more place → (file ≡ other) × (code ≡ more) × (at ≡ place)
-  one_of_three file code at (of_problem f) other more place (of_problem g) = (have_one_fault l domain problem).one file code at f other more place g
-  one_of_three file code at (of_problem f) other more place (of_third none g) = absurd ((have_one_fault l domain problem).none none file code at f)
-  one_of_three file code at (of_third none f) other more place (of_problem g) = absurd ((have_one_fault l domain problem).none none other more place g)
-  one_of_three file code at (of_third none f) other more place (of_third also g) = let e = (has_one_plan_fault plan).one (fault code at) (fault more place) f g in (refl, ap (λ z. z.code) e, ap (λ z. z.at) e)
+-- The least fault of the third text is one.
+pub record HasOneLeast (IsThird : (code at : ℕ) → Type 0) : Type 0 where
+  pub one : (code at more place : ℕ) → IsThird code at → IsThird more place → (code ≡ more) × (at ≡ place)
 
-  fault_or_read : (steps : List GroundAction) → HaveNoFault l domain problem → IsPlanRead plan steps
-      → (file code at : ℕ) → IsLeastWithPlan l domain problem plan file code at → ⊥
-  fault_or_read steps free read file code at (of_problem f) = (have_one_fault l domain problem).none free file code at f
-  fault_or_read steps free read file code at (of_third none f) = (has_one_plan_fault plan).none steps read (fault code at) f
+plan_one : (plan : List ℕ) → HasOneLeast (λ code at. IsPlanFault plan (fault code at))
+plan_one plan = record { one = λ code at more place f g. let e = (has_one_plan_fault plan).one (fault code at) (fault more place) f g in (ap (λ z. z.code) e, ap (λ z. z.at) e) }
+
+before_both : (f g : Fault) → IsBefore f g → IsBefore g f → (f.code ≡ g.code) × (f.at ≡ g.at)
+before_both f g (inl l) (inl k) = absurd (omega (arith, l, k))
+before_both f g (inl l) (inr (e, few)) = absurd (omega (arith, l, e))
+before_both f g (inr (e, few)) (inl k) = absurd (omega (arith, e, k))
+before_both f g (inr (e, few)) (inr (h, less)) = (omega (arith, few, less), e)
+
+-- its phase is that of no later fault, so two least faults are of one phase
+hplan_faults : (hplan : List ℕ) (f g : Fault) → hplans.IsLeastFault hplan f → hplans.IsLeastFault hplan g → (f.code ≡ g.code) × (f.at ≡ g.at)
+hplan_faults hplan f g x y = go (cases_lt x.phase y.phase) (cases_lt y.phase x.phase)
+  where
+    go : (x.phase < y.phase) ⊎ (y.phase ≤ x.phase) → (y.phase < x.phase) ⊎ (x.phase ≤ y.phase) → (f.code ≡ g.code) × (f.at ≡ g.at)
+    go (inl l) k = absurd (y.none_earlier x.phase f l x.is)
+    go (inr l) (inl k) = absurd (x.none_earlier y.phase g k y.is)
+    go (inr l) (inr k) =
+        let e : x.phase ≡ y.phase = omega (arith, l, k) in
+        before_both f g (x.least g (subst (λ z. hplans.IsFault hplan z g) (sym e) y.is)) (y.least f (subst (λ z. hplans.IsFault hplan z f) e x.is))
+
+hplan_one : (hplan : List ℕ) → HasOneLeast (λ code at. hplans.IsLeastFault hplan (fault code at))
+hplan_one hplan = record { one = λ code at more place f g. hplan_faults hplan (fault code at) (fault more place) f g }
+
+-- of three texts
+module _ (l : Language) (domain problem : List ℕ) (IsThird : (code at : ℕ) → Type 0) where
+  one_of_three : HasOneLeast IsThird → (file code at : ℕ) → IsLeastOfThree l domain problem IsThird file code at → (other more place : ℕ) → IsLeastOfThree l domain problem IsThird other more place
+      → (file ≡ other) × (code ≡ more) × (at ≡ place)
+  one_of_three third file code at (of_problem f) other more place (of_problem g) = (have_one_fault l domain problem).one file code at f other more place g
+  one_of_three third file code at (of_problem f) other more place (of_third none g) = absurd ((have_one_fault l domain problem).none none file code at f)
+  one_of_three third file code at (of_third none f) other more place (of_problem g) = absurd ((have_one_fault l domain problem).none none other more place g)
+  one_of_three third file code at (of_third none f) other more place (of_third also g) = let e = third.one code at more place f g in (refl, e.0, e.1)
+
+  fault_or_none : HaveNoFault l domain problem → ((code at : ℕ) → IsThird code at → ⊥) → (file code at : ℕ) → IsLeastOfThree l domain problem IsThird file code at → ⊥
+  fault_or_none free clean file code at (of_problem f) = (have_one_fault l domain problem).none free file code at f
+  fault_or_none free clean file code at (of_third none f) = clean code at f
+
+fault_or_read : (l : Language) (domain problem plan : List ℕ) (steps : List GroundAction) → HaveNoFault l domain problem → IsPlanRead plan steps
+    → (file code at : ℕ) → IsLeastWithPlan l domain problem plan file code at → ⊥
+fault_or_read l domain problem plan steps free read =
+    fault_or_none l domain problem (λ code at. IsPlanFault plan (fault code at)) free (λ code at f. (has_one_plan_fault plan).none steps read (fault code at) f)
+
+fault_or_hplan : (r : EncodeRequest) (domain problem hplan : List ℕ) (c : Compiled) (plan : HPlan) → SpellHPlan r domain problem hplan c plan
+    → (file code at : ℕ) → IsLeastWithHPlan domain problem hplan file code at → ⊥
+fault_or_hplan r domain problem hplan c plan s =
+    fault_or_none language.Hddl domain problem (λ code at. hplans.IsLeastFault hplan (fault code at)) s.problem_is.read.faultless (λ code at f. s.read.faultless f.phase (fault code at) f.is)
 
 fault_or_spelled : (domain problem plan : List ℕ) (c : Pddl) (steps : List GroundAction) → Spell domain problem plan c steps
     → (file code at : ℕ) → IsLeastWithPlan language.Pddl domain problem plan file code at → ⊥
@@ -76,8 +117,9 @@ one_least : (request : Request) (texts : List (List ℕ)) (file code at : ℕ) �
     → (file ≡ other) × (code ≡ more) × (at ≡ place)
 one_least (to_translate r) (d ∷ p ∷ []) file code at f other more place g = (have_one_fault language.Hddl d p).one file code at f other more place g
 one_least (to_bound r) (d ∷ p ∷ []) file code at f other more place g = (have_one_fault language.Hddl d p).one file code at f other more place g
-one_least (to_decode r) (d ∷ p ∷ plan ∷ []) file code at f other more place g = one_of_three language.Hddl d p plan file code at f other more place g
-one_least (to_validate r) (d ∷ p ∷ plan ∷ []) file code at f other more place g = one_of_three language.Pddl d p plan file code at f other more place g
+one_least (to_decode r) (d ∷ p ∷ plan ∷ []) file code at f other more place g = one_of_three language.Hddl d p _ (plan_one plan) file code at f other more place g
+one_least (to_encode r) (d ∷ p ∷ hplan ∷ []) file code at f other more place g = one_of_three language.Hddl d p _ (hplan_one hplan) file code at f other more place g
+one_least (to_validate r) (d ∷ p ∷ plan ∷ []) file code at f other more place g = one_of_three language.Pddl d p _ (plan_one plan) file code at f other more place g
 one_least _ _ file code at f other more place g = absurd f
 
 -- texts that are declined have no fault
@@ -94,6 +136,10 @@ declined_faultless (to_decode r) (d ∷ p ∷ plan ∷ []) (refused.Limit limit.
 declined_faultless (to_decode r) (d ∷ p ∷ plan ∷ []) (refused.Limit (limit.Slots m)) (none, (c, steps, n, s, bound, past)) file code at f = fault_or_steps r d p plan c steps s.spelled file code at f
 declined_faultless (to_decode r) (d ∷ p ∷ plan ∷ []) (refused.Finding (finding.SpellsNoSolution step why)) (c, steps, slots, source, fails) file code at f = fault_or_steps r d p plan c steps source.spelled.spelled file code at f
 declined_faultless (to_decode r) (d ∷ p ∷ plan ∷ []) (refused.Limit (limit.Output n)) (c, steps, slots, text, source, have, e, long) file code at f = fault_or_steps r d p plan c steps source.spelled.spelled file code at f
+declined_faultless (to_encode r) (d ∷ p ∷ hplan ∷ []) (refused.Limit (limit.Lines n)) (c, plan, s, e, many) file code at f = fault_or_hplan r d p hplan c plan s file code at f
+declined_faultless (to_encode r) (d ∷ p ∷ hplan ∷ []) (refused.Finding found) (c, plan, s, is) file code at f = fault_or_hplan r d p hplan c plan s.spelled file code at f
+declined_faultless (to_encode r) (d ∷ p ∷ hplan ∷ []) (refused.Limit (limit.Slots n)) (none, (c, plan, s, wide, many)) file code at f = fault_or_hplan r d p hplan c plan s.spelled file code at f
+declined_faultless (to_encode r) (d ∷ p ∷ hplan ∷ []) (refused.Limit (limit.Output n)) (c, plan, text, s, is, e, long) file code at f = fault_or_hplan r d p hplan c plan s.spelled file code at f
 declined_faultless (to_validate r) (d ∷ p ∷ plan ∷ []) (refused.Limit (limit.Steps n)) (c, steps, s, e, many) file code at f = fault_or_spelled d p plan c steps s file code at f
 declined_faultless (to_validate r) (d ∷ p ∷ plan ∷ []) (refused.Finding (finding.NotAPlan step why)) (c, steps, s, fails) file code at f = fault_or_spelled d p plan c steps s.spelled file code at f
 declined_faultless _ _ refusal x file code at f = absurd x
@@ -102,6 +148,7 @@ given_faultless : (request : Request) (texts : List (List ℕ)) (output : Output
 given_faultless (to_translate r) (d ∷ p ∷ []) output (texts, slots, written, e) file code at f = (have_one_fault language.Hddl d p).none written.source.problem_is.read.faultless file code at f
 given_faultless (to_bound r) (d ∷ p ∷ []) output (n, (c, s, bound), small, e) file code at f = (have_one_fault language.Hddl d p).none s.read.faultless file code at f
 given_faultless (to_decode r) (d ∷ p ∷ plan ∷ []) output (c, steps, slots, text, source, have, e) file code at f = fault_or_steps r d p plan c steps source.spelled.spelled file code at f
+given_faultless (to_encode r) (d ∷ p ∷ hplan ∷ []) output (c, plan, text, s, is, e) file code at f = fault_or_hplan r d p hplan c plan s.spelled file code at f
 given_faultless (to_validate r) (d ∷ p ∷ plan ∷ []) output ((c, steps, s, is), e) file code at f = fault_or_spelled d p plan c steps s.spelled file code at f
 given_faultless _ _ output x file code at f = absurd x
 

@@ -7,7 +7,7 @@ use Rattle.hddl_reader.specs.declared.sections.Language.TheVariants as language
 use Rattle.outside_io.specs.Files.{FilesState}
 use Rattle.text_values.specs.TextFaults.{IsLeastFault}
 use Rattle.command_words.specs.Names.{Word}
-use Rattle.command_words.specs.Words.{Request, to_translate, to_bound, to_decode, to_validate, Asks, AreOfAForm}
+use Rattle.command_words.specs.Words.{Request, to_translate, to_bound, to_decode, to_encode, to_validate, Asks, AreOfAForm}
 use Rattle.htn_cli.specs.Answer.{Output, Answer, refuses, gives}
 use Rattle.htn_cli.specs.Bounding.{RefusesBound, GivesBound}
 use Rattle.htn_cli.specs.Faults.{IsNoLimit, limit_code, IsFaultAt}
@@ -16,7 +16,8 @@ use Rattle.htn_cli.specs.Requests.{inputs_of, slots_given, IsWithin}
 use Rattle.htn_cli.specs.Slots.{RefusesSlots}
 use Rattle.htn_cli.specs.Translation.{RefusesTranslation, GivesTranslation}
 use Rattle.htn_cli.specs.Decoding.{RefusesDecode, GivesTree}
-use Rattle.htn_cli.specs.LeastFaults.{IsLeastWithPlan}
+use Rattle.htn_cli.specs.Encoding.{RefusesEncode, GivesSteps}
+use Rattle.htn_cli.specs.LeastFaults.{IsLeastWithPlan, IsLeastWithHPlan}
 use Rattle.htn_cli.specs.Validation.{RefusesPlan, GivesPlan}
 use Rattle.htn_cli.specs.declared.refusal.Limit.TheVariants as limit
 use Rattle.htn_cli.specs.declared.refusal.Refusal.{Refusal}
@@ -29,6 +30,7 @@ abbrev pub IsLeastOf : Request → List (List ℕ) → (file code at : ℕ) → 
 IsLeastOf (to_translate r) (d ∷ p ∷ []) = IsLeastFault language.Hddl d p
 IsLeastOf (to_bound r) (d ∷ p ∷ []) = IsLeastFault language.Hddl d p
 IsLeastOf (to_decode r) (d ∷ p ∷ plan ∷ []) = IsLeastWithPlan language.Hddl d p plan
+IsLeastOf (to_encode r) (d ∷ p ∷ hplan ∷ []) = IsLeastWithHPlan d p hplan
 IsLeastOf (to_validate r) (d ∷ p ∷ plan ∷ []) = IsLeastWithPlan language.Pddl d p plan
 IsLeastOf _ _ = λ file code at. ⊥
 
@@ -37,6 +39,7 @@ abbrev pub Refuses : Request → List (List ℕ) → Refusal → Type 0
 Refuses (to_translate r) (d ∷ p ∷ []) = RefusesTranslation r d p
 Refuses (to_bound r) (d ∷ p ∷ []) = RefusesBound r d p
 Refuses (to_decode r) (d ∷ p ∷ plan ∷ []) = RefusesDecode r d p plan
+Refuses (to_encode r) (d ∷ p ∷ hplan ∷ []) = RefusesEncode r d p hplan
 Refuses (to_validate r) (d ∷ p ∷ plan ∷ []) = RefusesPlan d p plan
 Refuses _ _ = λ refusal. ⊥
 
@@ -45,6 +48,7 @@ abbrev pub Gives : Request → List (List ℕ) → Output → Type 0
 Gives (to_translate r) (d ∷ p ∷ []) = GivesTranslation r d p
 Gives (to_bound r) (d ∷ p ∷ []) = GivesBound r d p
 Gives (to_decode r) (d ∷ p ∷ plan ∷ []) = GivesTree r d p plan
+Gives (to_encode r) (d ∷ p ∷ hplan ∷ []) = GivesSteps r d p hplan
 Gives (to_validate r) (d ∷ p ∷ plan ∷ []) = GivesPlan d p plan
 Gives _ _ = λ output. ⊥
 

@@ -14,6 +14,7 @@ pub mod Bounding
 pub mod LeastFaults
 pub mod Validation
 pub mod Decoding
+pub mod Encoding
 pub mod Answers
 pub mod Left
 pub mod Ending
@@ -25,5 +26,6 @@ pub mod Checks
 pub mod Line
 pub mod Printing
 pub mod Stops
+pub mod EncodeStops
 pub mod Made
 pub mod Calling

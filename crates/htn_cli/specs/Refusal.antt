@@ -1,6 +1,6 @@
 -- The status of a refusal, and its one line on standard error.
 -- Source: this project's.
-use Rattle.std.specs.Prelude.{ℕ, List, [], ◌++◌, codes, decimal}
+use Rattle.std.specs.Prelude.{ℕ, List, [], ◌++◌, Some, None, codes, decimal}
 use Rattle.htn_cli.specs.declared.status.Status.{Status}
 use Rattle.htn_cli.specs.declared.status.Status.TheVariants as status
 use Rattle.plan_model.specs.declared.causes.FailWhy.{FailWhy}
@@ -56,6 +56,7 @@ limit_word (limit.Slots n) = codes "slots"
 limit_word (limit.Bytes name) = codes "bytes"
 limit_word (limit.Text counted place) = counted_word counted
 limit_word (limit.Steps n) = codes "steps"
+limit_word (limit.Lines n) = codes "lines"
 limit_word (limit.Output n) = codes "output"
 
 -- and what is told of it: how much there is, or in which file, or where
@@ -65,6 +66,7 @@ limit_extent (limit.Slots n) = codes " " ++ decimal n
 limit_extent (limit.Bytes name) = codes " " ++ name.now
 limit_extent (limit.Text counted place) = codes " " ++ place_text place
 limit_extent (limit.Steps n) = codes " " ++ decimal n
+limit_extent (limit.Lines n) = codes " " ++ decimal n
 limit_extent (limit.Output n) = codes " " ++ decimal n
 
 -- the word of why a step of a plan fails
@@ -90,6 +92,12 @@ abbrev pub finding_text : Finding → List ℕ
 finding_text (finding.NotTailRecursive words) = codes "not tail-recursive:" ++ words
 finding_text (finding.NotAPlan step why) = codes "not a plan: step " ++ decimal step ++ codes " " ++ cause_word why
 finding_text (finding.SpellsNoSolution step why) = codes "not a plan: step " ++ decimal step ++ codes " " ++ why_word why
+finding_text (finding.NoMatch None) = codes "no match: root"
+finding_text (finding.NoMatch (Some id)) = codes "no match: line " ++ decimal id
+finding_text (finding.NotExecutable id) = codes "not executable: line " ++ decimal id
+finding_text finding.GoalFalse = codes "goal false"
+finding_text finding.NoPlacement = codes "no placement"
+finding_text (finding.NeedsBound width) = codes "needs bound " ++ decimal width
 
 abbrev pub failure_text : Failure → List ℕ
 failure_text (failure.Reading name) = codes "cannot read " ++ name.now

@@ -17,7 +17,7 @@ use Rattle.hddl_reader.specs.declared.sections.Language.TheVariants as language
 use Rattle.bound_calc.specs.NoBound.{NamesCycle}
 use Rattle.command_words.specs.Names.{Word, AreApart}
 use Rattle.command_words.specs.Bounds.{IsNumeral}
-use Rattle.command_words.specs.Words.{Request, translation_of, decode_of, number_of}
+use Rattle.command_words.specs.Words.{Request, translation_of, decode_of, encode_of, number_of}
 use Rattle.command_words.specs.declared.asking.Asked.{Asked}
 use Rattle.command_words.specs.declared.asking.Asked.TheVariants as asked
 use Rattle.htn_cli.specs.Answer.{Text, Output, refuses}
@@ -236,4 +236,5 @@ IsRefusalOf place code _ = ⊥
 abbrev pub IsWellAsked : Asked → Type 0
 IsWellAsked (asked.Translation t) = IfSome (translation_of t).numeral IsNumeral × AreApart (translation_of t).names
 IsWellAsked (asked.Decoding d) = IfSome (decode_of d).numeral IsNumeral
+IsWellAsked (asked.Encoding e) = IfSome (encode_of e).numeral IsNumeral
 IsWellAsked _ = Unit {0}

@@ -3,4 +3,5 @@ pub mod Headline
 pub mod Bound
 pub mod Plan
 pub mod Tree
+pub mod Steps
 pub mod Finding

@@ -11,6 +11,7 @@ mod checked;
 mod checking;
 mod decode;
 mod delivery;
+mod encode;
 mod faults;
 mod laws;
 mod manner;

@@ -17,11 +17,13 @@ ghost use Rattle.htn_cli.specs.promise.Headline.{HasHeadline};
 ghost use Rattle.htn_cli.specs.promise.Bound.{HasBound};
 ghost use Rattle.htn_cli.specs.promise.Plan.{HasPlan};
 ghost use Rattle.htn_cli.specs.promise.Tree.{HasTree};
+ghost use Rattle.htn_cli.specs.promise.Steps.{HasSteps};
 ghost use Rattle.htn_cli.specs.promise.Finding.{HasFinding};
 
 use crate::bounding::bounding;
 use crate::decode::decode;
 use crate::delivery::deliver;
+use crate::encode::encode;
 use crate::output::Output;
 use crate::refusal::{Limit, Refusal};
 use crate::status::Status;
@@ -64,6 +66,8 @@ pub fn run<F: Files, O: Sink, E: Sink>(
     ensures plan { result ≡ Status.Done → HasPlan (words_of words.now)
         (F.state files.old) (O.state out.old) (O.state out.new) }
     ensures tree { result ≡ Status.Done → HasTree (words_of words.now)
+        (F.state files.old) (O.state out.old) (O.state out.new) }
+    ensures steps { result ≡ Status.Done → HasSteps (words_of words.now)
         (F.state files.old) (O.state out.old) (O.state out.new) }
     ensures finding { result ≡ Status.Finding → HasFinding (words_of words.now)
         (F.state files.old) (E.state err.old) (E.state err.new) }
@@ -187,6 +191,7 @@ fn output_for<'a, F: Files>(
         Asked::Translation(asked) => translation(alloc, asked, files),
         Asked::Bound(asked) => bounding(alloc, asked, files),
         Asked::Decoding(asked) => decode(alloc, asked, files),
+        Asked::Encoding(asked) => encode(alloc, asked, files),
         Asked::Validation(asked) => validation(alloc, asked, files),
     }
 }

@@ -35,6 +35,8 @@ pub enum Limit<'a> {
     Text(Counted, Place<'a>),
     /// A plan has too many steps: so many.
     Steps(usize),
+    /// A hierarchical plan has too many lines with an id: so many.
+    Lines(u128),
     /// A printed text is too long: so many bytes.
     Output(u64),
 }
@@ -48,6 +50,16 @@ pub enum Finding {
     NotAPlan(u32, FailWhy),
     /// The list spells no solution: the step that fails, counted from 1, and its first cause.
     SpellsNoSolution(u32, Why),
+    /// No ground method fits the root of a hierarchical plan, or the line with this id is the first that none fits.
+    NoMatch(Option<u64>),
+    /// The line with this id is the first whose action's condition is false.
+    NotExecutable(u64),
+    /// The goal is false after the plan's actions.
+    GoalFalse,
+    /// No solution shows the plan.
+    NoPlacement,
+    /// The width of its latest schedule, which is greater than the given number of slots.
+    NeedsBound(u32),
 }
 
 /// What failed.
@@ -142,6 +154,7 @@ impl Limit<'_> {
             Limit::Bytes(name) => ("limit bytes ", Middle::Words(name.as_bytes()), "\n"),
             Limit::Text(counted, place) => (limit_start(*counted), Middle::Place(*place), "\n"),
             Limit::Steps(steps) => ("limit steps ", Middle::Number(*steps as u128), "\n"),
+            Limit::Lines(lines) => ("limit lines ", Middle::Number(*lines), "\n"),
             Limit::Output(size) => ("limit output ", Middle::Number(*size as u128), "\n"),
         };
         Line {
@@ -185,6 +198,14 @@ impl Finding {
                     reason_end(*why),
                 )
             }
+            Finding::NoMatch(None) => ("no match: root\n", Middle::Words(b""), ""),
+            Finding::NoMatch(Some(id)) => ("no match: line ", Middle::Number(*id as u128), "\n"),
+            Finding::NotExecutable(id) => {
+                ("not executable: line ", Middle::Number(*id as u128), "\n")
+            }
+            Finding::GoalFalse => ("goal false\n", Middle::Words(b""), ""),
+            Finding::NoPlacement => ("no placement\n", Middle::Words(b""), ""),
+            Finding::NeedsBound(width) => ("needs bound ", Middle::Number(*width as u128), "\n"),
         };
         Line {
             before,

@@ -1,3 +1,4 @@
+pub mod FaultWords
 pub mod DomainTexts
 pub mod ProblemTexts
 pub mod Refusals

@@ -4,7 +4,7 @@ use Rattle.plan_model.specs.declared.options.Style.TheVariants.{Flat}
 use Rattle.plan_model.specs.declared.options.Checks.TheVariants.{Leaf, AtOnce}
 use Rattle.command_words.specs.Names.{Word, Names, names_in, AreApart}
 use Rattle.command_words.specs.Forms.{AreOptions, translation_form, bound_form}
-use Rattle.command_words.specs.Words.{TranslationRequest, to_translate, to_bound, to_decode, to_validate, AsksTranslation, AsksBound, AreOfAForm}
+use Rattle.command_words.specs.Words.{TranslationRequest, to_translate, to_bound, to_decode, to_encode, to_validate, AsksTranslation, AsksBound, AreOfAForm}
 
 abbrev files : Names
 files = record { domain = codes "d.hddl"; problem = codes "p.hddl"; printed_domain = codes "od.pddl"; printed_problem = codes "op.pddl" }
@@ -48,6 +48,7 @@ twice are = let e = are.1 in cc
 same_name : (options : List Word) → AreOfAForm (codes "translate" ∷ codes "d.hddl" ∷ codes "p.hddl" ∷ codes "d.hddl" ∷ codes "op.pddl" ∷ options) → ⊥
 same_name options (to_bound r, (n, o, of, says)) = let e = ap (λ z. get_or z 0 []) of.spelled in absurd (grind (arith, e))
 same_name options (to_decode r, (n, o, of, says)) = let e = ap (λ z. get_or z 0 []) of.spelled in absurd (grind (arith, e))
+same_name options (to_encode r, (n, o, of, says)) = let e = ap (λ z. get_or z 0 []) of.spelled in absurd (grind (arith, e))
 same_name options (to_validate r, (n, o, of, says)) = let e = ap (λ z. get_or z 0 []) of.spelled in absurd (grind (arith, e))
 same_name options (to_translate r, (n, o, of, says)) =
     let d = ap (λ z. get_or z 1 []) of.spelled in
@@ -59,4 +60,5 @@ no_words : AreOfAForm [] → ⊥
 no_words (to_translate r, (n, o, of, says)) = let e = of.spelled in cc
 no_words (to_bound r, (n, o, of, says)) = let e = of.spelled in cc
 no_words (to_decode r, (n, o, of, says)) = let e = of.spelled in cc
+no_words (to_encode r, (n, o, of, says)) = let e = of.spelled in cc
 no_words (to_validate r, (n, o, of, says)) = let e = of.spelled in cc

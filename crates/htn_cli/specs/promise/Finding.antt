@@ -15,7 +15,7 @@ use Rattle.plan_proof.specs.TextPlans.{IsPlanOf}
 use Rattle.bound_calc.specs.stratifier.NamedCycle.{IsNamed}
 use Rattle.bound_calc.specs.stratifier.CycleWords.{cycle_line}
 use Rattle.command_words.specs.Names.{Word}
-use Rattle.command_words.specs.Words.{Request, to_translate, to_bound, to_decode, to_validate, Asks}
+use Rattle.command_words.specs.Words.{Request, to_translate, to_bound, to_decode, to_encode, to_validate, Asks}
 use Rattle.htn_cli.specs.Told.{AreToldToRead}
 use Rattle.htn_cli.specs.Requests.{inputs_of}
 use Rattle.htn_cli.specs.Refusal.{line_of}
@@ -24,6 +24,7 @@ use Rattle.htn_cli.specs.declared.refusal.Finding.TheVariants as finding
 use Rattle.htn_cli.specs.declared.refusal.Refusal.TheVariants as refused
 use Rattle.htn_cli.specs.promise.Problems.{ForEach}
 use Rattle.htn_cli.specs.promise.Tree.{TellsNoSolution}
+use Rattle.htn_cli.specs.promise.Steps.{TellsNoSteps}
 
 -- a problem that is not tail-recursive: the line tells its bad cycle that is named
 abbrev pub TellsCycle : (checks : Checks) (d p : List ℕ) → SinkState → SinkState → Type 0
@@ -48,6 +49,7 @@ TellsFinding (to_translate request) (d ∷ p ∷ []) err err' = TellsCycle reque
 TellsFinding (to_bound request) (d ∷ p ∷ []) err err' = TellsCycle request.checks d p err err'
 TellsFinding (to_decode request) (d ∷ p ∷ plan ∷ []) err err' =
     ((request.numeral ≡ None) × TellsCycle request.checks d p err err') ⊎ TellsNoSolution request d p plan err err'
+TellsFinding (to_encode request) (d ∷ p ∷ hplan ∷ []) err err' = TellsNoSteps request d p hplan err err'
 TellsFinding (to_validate request) (pd ∷ pp ∷ plan ∷ []) err err' = TellsFailure pd pp plan err err'
 TellsFinding _ _ err err' = ⊥
 

@@ -1,9 +1,9 @@
 use Rattle.std.proofs.Common.{List}
 use Rattle.command_words.specs.Names.{Word, words_of}
-use Rattle.command_words.specs.Words.{Asks, translation_of, decode_of, request_of}
+use Rattle.command_words.specs.Words.{Asks, translation_of, decode_of, encode_of, request_of}
 use Rattle.command_words.specs.declared.asking.Asked.{Asked}
 use Rattle.command_words.specs.declared.asking.Asked.TheVariants as asked
-use Rattle.command_words.proofs.Requests.{numeral_is, decode_numeral_is}
+use Rattle.command_words.proofs.Requests.{numeral_is, decode_numeral_is, encode_numeral_is}
 use Rattle.htn_cli.specs.Stops.{IsWellAsked}
 use Rattle.htn_cli.proofs.Results.{on_ok_too, if_err_too}
 use Rattle.htn_cli.proofs.CallsMade.{passes_done, calls_before}
@@ -13,6 +13,7 @@ well_asked : (words : List Word) (a : Asked) → Asks words (request_of a) → I
 well_asked words (asked.Translation t) asks = (numeral_is words (translation_of t) asks, asks.3.apart)
 well_asked words (asked.Bound b) asks = tt
 well_asked words (asked.Decoding d) asks = decode_numeral_is words (decode_of d) asks
+well_asked words (asked.Encoding e) asks = encode_numeral_is words (encode_of e) asks
 well_asked words (asked.Validation v) asks = tt
 
 pub perform-requires : goal.perform-requires

@@ -1,7 +1,7 @@
 use Rattle.std.proofs.Common.{sym, ◌∙◌, inl, inr, ⊎_elim, arith}
 use Rattle.command_words.specs.Names.{words_of}
 use Rattle.htn_cli.proofs.Texts.{Told-nothing}
-use Rattle.htn_cli.proofs.Headlines.{headline_done, bound_done, plan_done, tree_done, finding_refused}
+use Rattle.htn_cli.proofs.Headlines.{headline_done, bound_done, plan_done, tree_done, steps_done, finding_refused}
 use Rattle.htn_cli.proofs.Endings.{never_done, answered_refused, answered_done, past_all, past_slots_too, past_not_done, stays_done, stays_refused, words_refused, refused_for, write_fault, read_fault, shows, calm}
 use Rattle.htn_cli.proofs.CallsMade.{passes_finding}
 use Rattle.htn_cli.proofs.program.run.Goals as goal
@@ -25,6 +25,9 @@ returns-in-Ok-clause-plan g c = λ _. plan_done _ _ _ _ _ c.in-Ok.ensures.done
 
 pub returns-in-Ok-clause-tree : goal.returns-in-Ok-clause-tree
 returns-in-Ok-clause-tree g c = λ _. tree_done _ _ _ _ _ c.in-Ok.ensures.done c.values_are_decoded_alike.ensures
+
+pub returns-in-Ok-clause-steps : goal.returns-in-Ok-clause-steps
+returns-in-Ok-clause-steps g c = λ _. steps_done _ _ _ _ _ c.in-Ok.ensures.done c.values_are_decoded_alike.ensures
 
 pub returns-in-Ok-clause-past_all : goal.returns-in-Ok-clause-past_all
 returns-in-Ok-clause-past_all g c = λ n asks past. absurd (past_not_done _ _ _ _ _ n c.in-Ok.ensures.done asks (omega (arith, past)))
@@ -60,6 +63,9 @@ returns-in-Err-clause-plan g c = λ e. absurd (never_done c.in-Err.refusal (sym 
 
 pub returns-in-Err-clause-tree : goal.returns-in-Err-clause-tree
 returns-in-Err-clause-tree g c = λ e. absurd (never_done c.in-Err.refusal (sym c.status-status.ensures ∙ e))
+
+pub returns-in-Err-clause-steps : goal.returns-in-Err-clause-steps
+returns-in-Err-clause-steps g c = λ e. absurd (never_done c.in-Err.refusal (sym c.status-status.ensures ∙ e))
 
 pub returns-in-Err-clause-quiet : goal.returns-in-Err-clause-quiet
 returns-in-Err-clause-quiet g c = λ e. absurd (never_done c.in-Err.refusal (sym c.status-status.ensures ∙ e))

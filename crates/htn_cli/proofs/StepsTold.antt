@@ -1,0 +1,113 @@
+-- Steps that were told: what is true of one value of the two texts is true of each.
+use Rattle.std.proofs.Common.{ℕ, ◌≡◌, ◌≤◌, List, [], ◌∷◌, Contains, refl, sym, subst, ⊎_elim, arith}
+use Rattle.outside_io.specs.Sink.{SinkState}
+use Rattle.plan_model.specs.declared.steps.GroundAction.{GroundAction}
+use Rattle.plan_model.specs.declared.values.Compiled.{Compiled}
+use Rattle.plan_model.specs.declared.values.Hddl.{Hddl}
+use Rattle.plan_model.specs.task_networks.Net.{Net}
+use Rattle.plan_model.specs.task_networks.Tree.{Tree, Address, label}
+use Rattle.plan_model.specs.task_networks.Pending.{ArePending, IsPending, IsWidth}
+use Rattle.plan_model.specs.plan_meaning.Compilation.{IsCompiled}
+use Rattle.plan_model.specs.plan_meaning.Network.{network}
+use Rattle.plan_model.specs.plan_meaning.Solution.{IsSolution}
+use Rattle.plan_model.proofs.task_networks.Lists.{not-in_empty, head_or_tail}
+use Rattle.plan_texts.specs.FirstSeen.{IsHddlOf}
+use Rattle.schedules.specs.latest.PlanLines.{IsRenumbering}
+use Rattle.schedules.specs.latest.Shown.{plan_of}
+use Rattle.hplan_text.specs.declared.values.HPlan.{HPlan}
+use Rattle.hplan_text.specs.ShownLaws.{IsShownOnce}
+use Rattle.hplan_text.specs.ShownSolutions.{SpellShown}
+use Rattle.hplan_text.proofs.ShownOnce.{each_is_shown_once}
+use Rattle.plan_encoder.specs.Calls.{lines_of, words, ShowsUnderSomeIds}
+use Rattle.plan_encoder.specs.Laws.{IsOf}
+use Rattle.plan_encoder.proofs.ShownLines.{shown_are_lines}
+use Rattle.placements.proofs.PlacedPlans.{placed_are_solutions}
+use Rattle.step_texts.specs.StepTexts.{IsSpelled, slots_for, steps_text}
+use Rattle.decode_answers.specs.DecodeLaws.{IsDecodable, ValuesAreDecodedAlike}
+use Rattle.command_words.specs.Words.{EncodeRequest}
+use Rattle.htn_cli.specs.Encoding.{IsFound, slots_of, SpellHPlan}
+use Rattle.htn_cli.specs.Problem.{SpellProblem}
+use Rattle.htn_cli.specs.Refusal.{line_of}
+use Rattle.htn_cli.specs.Sent.{TakesWhole, Told}
+use Rattle.htn_cli.specs.promise.Problems.{ForSome}
+use Rattle.htn_cli.specs.promise.Steps.{TellsSteps, TellsNoSteps}
+use Rattle.htn_cli.specs.declared.refusal.Finding.{Finding}
+use Rattle.htn_cli.specs.declared.refusal.Refusal.TheVariants as refused
+use Rattle.htn_cli.proofs.EachProblem.{faithful_of_each}
+
+-- at first the root is pending, so a width is at least 1
+module _ (N : Net) (tree : Tree N) where
+  root_pending : (p : Address) → Contains ([] ∷ []) p → IsPending N tree [] p
+  root_pending p h = go p (⊎_elim sym (λ k. absurd (not-in_empty p k)) (head_or_tail [] [] p h))
+    where
+      go : (p : Address) → p ≡ [] → IsPending N tree [] p
+      go p e = subst (IsPending N tree []) (sym e) (record { address = (label N tree, refl); begun = tt; left = λ k. not-in_empty [] k })
+
+  first_pending : ArePending N tree [] ([] ∷ [])
+  first_pending = record { different = (λ k. not-in_empty [] k, tt); pending = root_pending }
+
+  some_width : (width : ℕ) (order : List Address) → IsWidth N width tree order → 1 ≤ width
+  some_width width order is = is.within [] order ([] ∷ []) refl first_pending
+
+module _ (request : EncodeRequest) (d p hplan : List ℕ) (c : Compiled) (plan : HPlan) (spelled : SpellHPlan request d p hplan c plan) where
+  abbrev source : SpellProblem d p request.checks c
+  source = spelled.problem_is
+
+  here : (Is : Compiled → Type 0) → Is c → ForSome d p request.checks Is
+  here Is is = (source.value, c, source.read.spelled, source.compiled_is, is)
+
+  -- a plan that was said to have no steps
+  pub no_steps_here : (f : Finding) → IsFound c plan (slots_of request) f → (err err' : SinkState) → Told (line_of (refused.Finding f)) err err' → TellsNoSteps request d p hplan err err'
+  no_steps_here f is err err' told = record { plan = plan; read = spelled.read; found = f; told = told; is = here (λ c. IsFound c plan (slots_of request) f) is }
+
+  module _ (alike : ValuesAreDecodedAlike) (width : ℕ) (steps : List GroundAction) (is : IsSpelled c plan (slots_for (slots_of request) width) width steps) where
+    abbrev slots : ℕ
+    slots = slots_for (slots_of request) width
+
+    of : IsOf source.value request.checks c
+    of = record { sound = source.read.sound; ordered = source.read.ordered; compiled = source.compiled_is }
+
+    placed : IsSolution c is.tree is.order × ShowsUnderSomeIds c plan is.tree is.order
+    placed = placed_are_solutions c source.value request.checks of plan is.tree is.order is.placed
+
+    some_slot : 1 ≤ slots
+    some_slot = let some = some_width (network c) is.tree width is.order is.width_is in let within = is.within in omega (arith, some, within)
+
+    decodable : IsDecodable source.value request.checks c slots
+    decodable = record { sound = source.read.sound; ordered = source.read.ordered; compiled = source.compiled_is; some_slot = some_slot; few_slots = is.few }
+
+    -- the finished tree shows one plan, whose lines are the tree's
+    once : IsShownOnce c is.tree is.order
+    once = each_is_shown_once c is.tree is.order placed.0.finished
+
+    shown_here : SpellShown c slots steps once.plan
+    shown_here = record { tree = is.tree; order = is.order; slot = is.slot; spelled = (is.acts, is.lowest.spells, is.steps_are); solution = placed.0; shows = once.shows }
+
+    each_shown : (h : Hddl) (k : Compiled) → IsHddlOf d p h → IsCompiled h request.checks k → SpellShown k slots steps once.plan
+    each_shown h k s compiled = (alike d p source.value h request.checks c k slots steps source.read.spelled s decodable compiled).shown once.plan shown_here
+
+    lines_are : lines_of once.plan ≡ plan_of (network c) (words c) is.tree is.order
+    lines_are = (shown_are_lines c is.tree is.order once.plan placed.0.finished).0 once.shows
+
+    renumbered : IsRenumbering placed.1.0 (lines_of plan) (lines_of once.plan)
+    renumbered = subst (λ z. IsRenumbering placed.1.0 (lines_of plan) z) (sym lines_are) placed.1.1
+
+    pub steps_here : (out out' : SinkState) → TakesWhole (steps_text width steps) out out' → TellsSteps request d p hplan out out'
+    steps_here out out' told = record {
+      plan = plan;
+      read = spelled.read;
+      steps = steps;
+      width = width;
+      slots = slots;
+      slots_are = refl;
+      told = told;
+      latest = here (λ c. IsSpelled c plan slots width steps) is;
+      shown = once.plan;
+      shows = each_shown;
+      new = placed.1.0;
+      renumbered = renumbered;
+      is_plan = λ h k s compiled style value printed. (
+          let x = each_shown h k s compiled in
+          ((faithful_of_each d p request.checks c source slots style value h k s printed h k s compiled).plans steps).1 (x.tree, x.order, x.slot, x.spelled, x.solution)
+          );
+    }
