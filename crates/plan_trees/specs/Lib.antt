@@ -1,1 +1,3 @@
+pub mod Sources
+pub mod Seeds
 pub mod PlanTrees

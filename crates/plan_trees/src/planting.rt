@@ -11,12 +11,7 @@ use plan_model::Compiled;
 use std::alloc::Global;
 
 /// The tree of the plan with these lines, where these ground methods fit them.
-pub fn tree_of(
-    alloc: Global,
-    c: &Compiled,
-    lines: &Lines,
-    fits: &Fits,
-) -> Result<PlanTree, Memory>
+pub fn tree_of(alloc: Global, c: &Compiled, lines: &Lines, fits: &Fits) -> Result<PlanTree, Memory>
     requires soundly { IsSoundlyCompiled c.now }
     requires few { length lines.now.steps + length lines.now.splits ≤ most_lines }
     ensures tree { IfOk result (spec.IsPlanTreeOf c.now lines.now fits.now) }

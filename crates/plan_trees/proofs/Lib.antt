@@ -1,0 +1,4 @@
+pub mod SeedLists
+pub mod Growing
+pub mod Fitted
+pub mod Seeding
