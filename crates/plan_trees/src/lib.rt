@@ -5,6 +5,7 @@
 //! and where the primitives stand in it.
 #![tactic(auto)]
 
+mod actions;
 mod labels;
 mod plan_tree;
 mod planting;
