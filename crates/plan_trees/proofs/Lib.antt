@@ -2,3 +2,5 @@ pub mod SeedLists
 pub mod Growing
 pub mod Fitted
 pub mod Seeding
+pub mod Labelling
+pub mod FittedTrees

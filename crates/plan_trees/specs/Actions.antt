@@ -1,6 +1,6 @@
 -- The addresses of the primitives of a plan, in the order of their lines.
 -- Source: this project's.
-use Rattle.std.specs.Prelude.{ℕ, ◌≡◌, ◌<◌, List, length, slice_get, Option, Some, set}
+use Rattle.std.specs.Prelude.{ℕ, ◌≡◌, ◌<◌, List, length, slice_get, Some, set}
 use Rattle.plan_trees.specs.declared.seed.Source.{Source}
 use Rattle.plan_trees.specs.declared.seed.Source.TheVariants.{Step, Task, Check}
 use Rattle.plan_trees.specs.declared.seed.Seed.{Seed}
