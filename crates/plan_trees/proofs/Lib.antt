@@ -4,3 +4,4 @@ pub mod Fitted
 pub mod Seeding
 pub mod Labelling
 pub mod FittedTrees
+pub mod Planted
