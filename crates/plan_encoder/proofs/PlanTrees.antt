@@ -38,8 +38,8 @@ use Rattle.plan_encoder.proofs.CompiledMethods.{works_are}
 use Rattle.plan_encoder.proofs.SameRecords.{head_task}
 use Rattle.plan_encoder.proofs.ListedOnce.{id_at, AsMany, falses, id_listed, id_once, listed_at, images, passing, ids_are, different_lines, one_split, one_step, step_or_split, root_once, children_once, root_or_line, one_line}
 
--- a check or not, of an element
-module _ (c : Compiled) (plan : HPlan) where
+-- where the method at each line's node is one that is chosen for the line
+module _ (c : Compiled) (plan : HPlan) (Chosen : SplitLine ℕ Decomposed → GroundMethod → Type 0) where
   abbrev N : Net
   N = network c
 
@@ -55,12 +55,17 @@ module _ (c : Compiled) (plan : HPlan) where
   abbrev checks : List Work → List Bool
   checks ws = map is_check ws
 
+  -- it fits the line and is chosen for it
+  record IsFor (l : Split) (g : GroundMethod) : Type 0 where
+    fits : Fits c P l g
+    chosen : Chosen l g
+
   abbrev mutual
     -- the tree is that of the line with this id, whose work this is
     IsOf : Tree N → ℕ → Work → Type 0
     IsOf (open_leaf v) i w = ⊥
     IsOf (done v) i w = (v ≡ w) × IsPrimitive w × (is_check w ≡ false) × Contains P.steps (record { id = i; step = call c w })
-    IsOf (split g ts) i w = (l : Split) × Contains P.splits l × (l.id ≡ i) × Fits c P l g × (N.head g ≡ w) × AreOf ts l.children (N.works g)
+    IsOf (split g ts) i w = (l : Split) × Contains P.splits l × (l.id ≡ i) × IsFor l g × (N.head g ≡ w) × AreOf ts l.children (N.works g)
 
     -- trees of these works, which are checks, or have these ids
     AreOf : Trees N → List ℕ → List Work → Type 0
@@ -74,7 +79,7 @@ module _ (c : Compiled) (plan : HPlan) where
     grown_of : (t : Tree N) (i : ℕ) (w : Work) → IsOf t i w → IsGrown N t × (work_of N t ≡ w)
     grown_of (open_leaf v) i w x = absurd x
     grown_of (done v) i w (e, s, n, d) = (subst IsPrimitive (sym e) s, e)
-    grown_of (split g ts) i w (l, d, e, f, hd, a) = let r = all_grown ts l.children (N.works g) a in ((f.ground, r.1, r.0), hd)
+    grown_of (split g ts) i w (l, d, e, f, hd, a) = let r = all_grown ts l.children (N.works g) a in ((f.fits.ground, r.1, r.0), hd)
 
     all_grown : (ts : Trees N) (ids : List ℕ) (ws : List Work) → AreOf ts ids ws → AreGrown N ts × (works_of N ts ≡ ws)
     all_grown none ids [] a = (tt, refl)
@@ -125,13 +130,13 @@ module _ (c : Compiled) (plan : HPlan) where
   child_there (more u ts) ids (w ∷ ws) (inr (m, rest, k, n, x, a)) (suc j) i e =
       child_there ts rest ws a j i (sym (ap (λ z. id_at (is_check w ∷ checks ws) z (suc j)) k ∙ ap (λ b. id_at (b ∷ checks ws) (m ∷ rest) (suc j)) n) ∙ e)
 
-  works_known : (g : GroundMethod) → IsGroundMethod c g → (w : Work) → Contains (N.works g) w → is_check w ≡ false → IsKnown c w
+  pub works_known : (g : GroundMethod) → IsGroundMethod c g → (w : Work) → Contains (N.works g) w → is_check w ≡ false → IsKnown c w
   works_known g ground w d n =
       let (x, a, e) = map_to (child_of g) ground.plan.schema.children w (subst (λ z. Contains z w) (works_are c g ground.plan ground.is) d) in
       subst (IsKnown c) e (declared_is_known c (child_of g x) (ap is_check e ∙ n) (ground.met.declared x a))
 
   module _ (h : Hddl) (mode : Checks) (sound : IsSoundProblem h) (is : IsCompiled h mode c) (s : IsSoundHPlan plan)
-      (fits : EachFits c P) where
+      (fits : EachFits c P) (chosen : (l : Split) (d : Contains P.splits l) → Chosen l (fits.splits l d).0) where
     -- the id stands below these, which are listed one by the next, and the last by the root
     abbrev Chain : ℕ → List ℕ → Type 0
     Chain i [] = Contains P.root i
@@ -218,7 +223,7 @@ module _ (c : Compiled) (plan : HPlan) where
     grow (suc k) upper e i (task t v) ch n known (l, d, f, x) =
         let (g, fit) = fits.splits l d in
         let r = grow_all (i ∷ upper) (grow k (i ∷ upper) (omega arith)) l.children (N.works g) (λ j m. (l, d, f, m, ch)) (works_known g fit.ground) fit.children in
-        (split g r.0, (l, d, f, fit, head_fits l g t v fit known x, r.1))
+        (split g r.0, (l, d, f, record { fits = fit; chosen = chosen l d }, head_fits l g t v fit known x, r.1))
 
     abbrev top_method : GroundMethod
     top_method = fits.root.0
@@ -450,6 +455,20 @@ module _ (c : Compiled) (plan : HPlan) where
             at_work (check u v) pr nc e f m = absurd cc
             at_work (task u v) pr nc e f m = absurd pr
 
+    pub root_label : label_at N tree [] ≡ Some (used top_method)
+    root_label = label_split [] top_method children.0 root_at
+
+    -- the method at a line's node is chosen for the line
+    pub chosen_there : (l : Split) → Contains P.splits l → (g : GroundMethod) × (label_at N tree (node l.id) ≡ Some (used g)) × Chosen l g
+    chosen_there l d = let (t, a, w, x) = tree_of_id (node l.id) l.id (node_there l.id (split_listed l d)) in go t a w x
+      where
+        go : (t : Tree N) → at N tree (node l.id) ≡ Some t → (w : Work) → IsOf t l.id w
+            → (g : GroundMethod) × (label_at N tree (node l.id) ≡ Some (used g)) × Chosen l g
+        go (open_leaf v) a w x = absurd x
+        go (done v) a w (e, pr, nc, m) = absurd (step_or_split plan s (record { id = l.id; step = call c w }) l m d refl)
+        go (split g ts) a w (k, m, e, fit, hd, of) =
+            (g, label_split (node l.id) g ts a, subst (λ (z : Split). Chosen z g) (one_split plan s k l m d e) fit.chosen)
+
     -- the line of a decomposed node that isn't the root
     has_line : (p : Address) (i : ℕ) (g : GroundMethod) → IdAt p i → label_at N tree p ≡ Some (used g)
         → split_line N W tree p ≡ Some (record { id = p; split = W.split g; children = map (λ k. k ∷ p) (Lines.shown_children N W g) })
@@ -470,7 +489,7 @@ module _ (c : Compiled) (plan : HPlan) where
         go (split g ts) a w (k, m, e, fit, hd, of) =
             let same : k ≡ l = one_split plan s k l m d e in
             let there = node_there l.id (split_listed l d) in
-            let says : W.split g ≡ l.split = fit.says ∙ ap (λ (z : Split). z.split) same in
+            let says : W.split g ≡ l.split = fit.fits.says ∙ ap (λ (z : Split). z.split) same in
             let kids = children_are (node l.id) g ts a l.children (node_of_line (node l.id) l d there) (subst (λ (z : Split). AreOf ts z.children (N.works g)) same of) in
             has_line (node l.id) l.id g there (label_split (node l.id) g ts a)
             ∙ (λ i. Some (record { id = node l.id; split = says i; children = (sym kids) i }))
@@ -647,6 +666,13 @@ module _ (c : Compiled) (plan : HPlan) where
 
 pub trees_exactly_where_fitting : (c : Compiled) → TreesExactlyWhereFitting c
 trees_exactly_where_fitting c h mode of plan s = (
-  λ (tree, node, t). each_fits c plan tree node t,
-  λ fits. (tree c plan h mode of.sound of.compiled s fits, node c plan h mode of.sound of.compiled s fits, tree_for c plan h mode of.sound of.compiled s fits),
+  λ (tree, node, t). each_fits c plan any tree node t,
+  λ fits. (
+    tree c plan any h mode of.sound of.compiled s fits (λ l d. tt),
+    node c plan any h mode of.sound of.compiled s fits (λ l d. tt),
+    tree_for c plan any h mode of.sound of.compiled s fits (λ l d. tt),
+  ),
 )
+  where
+    any : SplitLine ℕ Decomposed → GroundMethod → Type 0
+    any l g = Unit {0}

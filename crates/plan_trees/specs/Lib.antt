@@ -1,1 +1,4 @@
+pub mod Sources
+pub mod Seeds
+pub mod Actions
 pub mod PlanTrees

@@ -5,8 +5,12 @@
 //! and where the primitives stand in it.
 #![tactic(auto)]
 
+mod actions;
+mod labels;
 mod plan_tree;
 mod planting;
+mod seed;
+mod seeds;
 
 pub use plan_tree::PlanTree;
 pub use planting::tree_of;

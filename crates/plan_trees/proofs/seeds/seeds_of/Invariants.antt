@@ -1,0 +1,10 @@
+use Rattle.std.proofs.Common.{◌≤◌, length}
+use Rattle.htn_base.specs.Limits.{most_steps}
+use Rattle.plan_trees.proofs.Seeding.{AreSoFar}
+use Rattle.plan_trees.proofs.seeds.seeds_of.Given as goal
+
+abbrev pub invariant-loop-place : goal.invariant-loop-place
+invariant-loop-place l = record {
+  few : length l.seeds ≤ most_steps;
+  so_far : AreSoFar l.c l.lines l.fits l.seeds l.place;
+}
