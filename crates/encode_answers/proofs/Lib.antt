@@ -1,0 +1,2 @@
+pub mod OnceTrees
+pub mod OnceValues
