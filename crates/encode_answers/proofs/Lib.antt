@@ -1,2 +1,3 @@
 pub mod OnceTrees
 pub mod OnceValues
+pub mod OncePlaced
