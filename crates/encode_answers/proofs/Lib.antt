@@ -1,3 +1,4 @@
 pub mod OnceTrees
 pub mod OnceValues
 pub mod OncePlaced
+pub mod OnceFindings
