@@ -1,0 +1,8 @@
+//! The laws, each the contract of a function that does nothing.
+
+ghost use Rattle.encode_answers.specs.EncodeLaws.{EachIsEncodedOnce};
+
+/// A plan comes to one text, to its length, or to one sentence that says why there is none.
+pub fn each_is_encoded_once()
+    ensures { EachIsEncodedOnce }
+{}
