@@ -28,7 +28,7 @@ pub fn tree_of(alloc: Global, c: &Compiled, lines: &Lines, fits: &Fits) -> Resul
     let order = run.order.as_slice();
     let actions = actions_of(alloc, seeds.as_slice(), order, lines.steps.len())?;
     Ok(PlanTree {
-        tree: run.tree.copy(alloc)?,
+        tree: run.into_tree(),
         actions,
     })
 }

@@ -30,7 +30,7 @@ returns c = record {
       let acts = subst (λ z. AreActions z run.order (length c.args.lines.now.steps) c.in_ok-actions.actions) c.as_slice-2.ensures.items
       (subst (λ z. AreActions c.as_slice-2.result.now z (length c.args.lines.now.steps) c.in_ok-actions.actions) c.as_slice-order.ensures.items
       (subst (λ z. AreActions c.as_slice-2.result.now c.as_slice-order.result.now z c.in_ok-actions.actions) c.len.ensures.length c.in_ok-actions.ensures)) in
-      subst (λ z. IsPlanTreeOf cv c.args.lines.now c.args.fits.now (record { tree = z; actions = c.in_ok-actions.actions })) (sym c.in_ok-copy.ensures.equal)
+      subst (λ z. IsPlanTreeOf cv c.args.lines.now c.args.fits.now (record { tree = z; actions = c.in_ok-actions.actions })) (sym c.into_tree.ensures.tree)
       (is_plan_tree cv c.args.lines.now c.args.fits.now c.requires.soundly seeds c.in_ok-seeds.ensures.few c.in_ok-seeds.ensures.seeds run
       (run_is (goal.at.returns c).In-Ok) c.in_ok-actions.actions acts);
 }
