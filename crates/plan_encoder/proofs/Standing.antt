@@ -80,13 +80,9 @@ module _ (c : Compiled) where
         go (split m ts) lab k = absurd (let x = head_no_check c m in let y = ap is_check k in cc)
 
     module _ (labels : List (Label N)) where
-      -- one node asks for the values of a method
-      pub choice : IsChoice N tree (List ℕ) (chosen c tree) (MayStand c tree labels) (chooser c tree)
-      choice = record {
-        shape = λ values. same_shape N (work_with values) (method_with values) (λ p m i j. (λ x. x, λ x. x)) tree;
-        asking = asking c tree;
-        only = λ p. only p (label_at N tree p) refl;
-      }
+      -- a node asks for the values of the method that it chooses, or for none
+      pub asks_once : (p : Address) → (p ≡ asking c tree (chooser c tree p)) ⊎ ((v : List ℕ) (i : ℕ) → MayStand c tree labels p v i)
+      asks_once p = only p (label_at N tree p) refl
         where
           Asks : Address → Type 0
           Asks p = (p ≡ asking c tree (chooser c tree p)) ⊎ ((v : List ℕ) (i : ℕ) → MayStand c tree labels p v i)
@@ -118,6 +114,14 @@ module _ (c : Compiled) where
               go : (b : Bool) → is_checked c g ≡ b → Asks p
               go true f = nothing p (Some (used g)) e (λ v i. inl f)
               go false f = itself p (Some (used g)) e refl (ap (λ b. cond b (0 ∷ p) p) f)
+
+      -- one node asks for the values of a method
+      pub choice : IsChoice N tree (List ℕ) (chosen c tree) (MayStand c tree labels) (chooser c tree)
+      choice = record {
+        shape = λ values. same_shape N (work_with values) (method_with values) (λ p m i j. (λ x. x, λ x. x)) tree;
+        asking = asking c tree;
+        only = asks_once;
+      }
 
       module _ (values : Address → List ℕ) (gap : Address → ℕ)
           (stands : (p : Address) → IsAddress N tree p → MayStand c tree labels p (values (chooser c tree p)) (gap p)) where

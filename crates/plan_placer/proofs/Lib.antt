@@ -1,0 +1,5 @@
+-- Histories that grow by actions, and how the parts of a placement meet.
+pub mod Histories
+pub mod Relabelled
+pub mod GapFunctions
+pub mod Scheduled
