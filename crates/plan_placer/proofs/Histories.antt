@@ -1,10 +1,9 @@
 -- A history that has the states between labels, and goes on with one more.
-use Rattle.std.proofs.Common.{ℕ, zero, suc, ◌≡◌, ◌⊎◌, ◌+◌, ◌<◌, ◌≤◌, ◌↔◌, inl, inr, IsTrue, Bool, true, false, List, [], ◌∷◌, ◌++◌, length, take, slice_get, get_or, Option, Some, None, Contains, refl, ap, sym, subst, ◌∙◌, arith}
+use Rattle.std.proofs.Common.{ℕ, zero, suc, ◌≡◌, ◌⊎◌, ◌+◌, ◌<◌, ◌≤◌, ◌↔◌, inl, inr, IsTrue, Bool, true, false, List, [], ◌∷◌, ◌++◌, length, take, slice_get, get_or, Option, Some, Contains, refl, ap, sym, subst, ◌∙◌, arith}
 use Rattle.std.proofs.Math.Seq.{take-length}
 use Rattle.std.proofs.lemmas.List.{take-append-le, take_all, length-append}
 use Rattle.std.proofs.lemmas.Bool.{cases_lt}
 use Rattle.std.proofs.lemmas.Option.{slice_get-get_or}
-use Rattle.plan_texts.specs.Together.{Together}
 use Rattle.plan_model.specs.declared.formulas.Formula.{Formula}
 use Rattle.plan_model.specs.declared.schemas.ActionSchema.{ActionSchema}
 use Rattle.plan_model.specs.declared.values.Compiled.{Compiled}
@@ -26,7 +25,7 @@ use Rattle.hplan_text.specs.declared.values.HLine.{HLine}
 use Rattle.hplan_text.specs.declared.values.HPlan.{HPlan}
 use Rattle.method_fits.specs.Worlds.{IsWorldOf}
 use Rattle.numbered_lines.specs.declared.lines.Said.{Said}
-use Rattle.placements.specs.Placement.{AreExecutable, state_after}
+use Rattle.placements.specs.Placement.{state_after}
 use Rattle.plan_placer.specs.Executed.{IsLabelOf, AreLabelsOf, HasStates, IsExecuted, IsStoppedAt, HasReached, HasMissed}
 
 module _ (N : Net) (S : Type 1) (Allowed : S → Label N → Type 0) (step : S → Label N → S) where

@@ -3,3 +3,7 @@ pub mod Histories
 pub mod Relabelled
 pub mod GapFunctions
 pub mod Scheduled
+pub mod StepLabels
+pub mod Refusals
+pub mod Placed
+pub mod Worlds

@@ -1,5 +1,5 @@
 -- The nodes of a tree with other works and methods stand in the same preorder.
-use Rattle.std.proofs.Common.{ℕ, suc, ◌≡◌, [], ◌∷◌, ◌++◌, List, refl}
+use Rattle.std.proofs.Common.{ℕ, suc, ◌≡◌, [], ◌∷◌, ◌++◌, refl}
 use Rattle.plan_model.specs.task_networks.Net.{Net}
 use Rattle.plan_model.specs.task_networks.Tree.{Tree, Trees, open_leaf, done, split, none, more, Address}
 use Rattle.plan_model.specs.task_networks.Preorder.{nodes_at, nodes_from, preorder}

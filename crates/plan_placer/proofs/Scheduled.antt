@@ -1,10 +1,10 @@
 -- What a pass over the tree of a plan finds is the latest schedule of a solution that shows the plan, or that there is none.
-use Rattle.std.proofs.Common.{ℕ, zero, suc, ◌≡◌, ◌⊎◌, inl, inr, ◌<◌, ◌≤◌, Bool, true, false, cond, List, [], ◌∷◌, length, map, slice_get, slice_index_or, Option, Some, None, refl, ap, sym, subst, ◌∙◌, arith}
+use Rattle.std.proofs.Common.{ℕ, suc, ◌≡◌, inl, inr, ◌<◌, ◌≤◌, Bool, true, false, cond, List, [], ◌∷◌, length, slice_get, slice_index_or, Option, Some, refl, ap, sym, subst, ◌∙◌, arith}
 use Rattle.std.proofs.lemmas.Option.{slice_get_within}
 use Rattle.plan_texts.specs.SoundlyCompiled.{IsSoundlyCompiled}
 use Rattle.plan_model.specs.declared.values.Compiled.{Compiled}
 use Rattle.plan_model.specs.task_networks.Net.{Net}
-use Rattle.plan_model.specs.task_networks.Tree.{Tree, Label, waits, ran, used, Address, label_at, IsAddress, IsGrown}
+use Rattle.plan_model.specs.task_networks.Tree.{Tree, Label, waits, ran, used, Address, label_at, IsAddress}
 use Rattle.plan_model.specs.task_networks.Preorder.{preorder}
 use Rattle.plan_model.specs.task_networks.Executable.{AreLabels}
 use Rattle.plan_model.specs.plan_meaning.Network.{GroundMethod, network}
@@ -14,19 +14,18 @@ use Rattle.tree_core.specs.declared.growth.Scheduled.{Scheduled}
 use Rattle.tree_core.specs.Tables.{Row, table}
 use Rattle.tree_core.specs.Labels as of_rows
 use Rattle.tree_core.specs.Labels.{labelled}
-use Rattle.tree_core.specs.Runs.{AreAt, StandsFor}
+use Rattle.tree_core.specs.Runs.{AreAt}
 use Rattle.tree_core.proofs.Siblings.{as_many, one_node_place, place_of_node}
 use Rattle.tree_core.proofs.Labelled.{preorder-labelled}
 use Rattle.tree_core.proofs.TableRows.{tables_tell_trees}
-use Rattle.schedules.specs.latest.Gaps.{IsPlanOf, IsGapFunction, IsLatest}
-use Rattle.schedules.specs.latest.LatestSchedule.{IsScheduleOf}
+use Rattle.schedules.specs.latest.Gaps.{IsPlanOf, IsLatest}
 use Rattle.schedules.specs.latest.Execution.{IsSameShape}
-use Rattle.schedules.specs.latest.Shown.{place, PlanWords}
-use Rattle.schedules.proofs.latest.Shapes.{same_gap_functions, shape_back, same_plan}
+use Rattle.schedules.specs.latest.Shown.{place}
+use Rattle.schedules.proofs.latest.Shapes.{same_gap_functions, same_plan}
 use Rattle.schedules.proofs.latest.ShownTheorem.{steps}
 use Rattle.plan_encoder.specs.Calls.{words, lines_of}
-use Rattle.plan_encoder.specs.ChosenValues.{with_values, method_with, work_with, CanHave, chosen, is_checked, asking_by, asking, chooser, MayStand}
-use Rattle.plan_encoder.specs.Laws.{IsOf, actions, HasTree, MayStandSomehow, MayStandWith}
+use Rattle.plan_encoder.specs.ChosenValues.{method_with, work_with, CanHave, chosen, is_checked, asking_by, asking, chooser, MayStand}
+use Rattle.plan_encoder.specs.Laws.{IsOf, actions, MayStandSomehow, MayStandWith}
 use Rattle.plan_encoder.proofs.ChosenTrees.{grown_chosen}
 use Rattle.plan_encoder.proofs.ShownLines.{place_is}
 use Rattle.plan_encoder.proofs.Solutions.{solutions_exactly_where_gaps}
@@ -38,7 +37,7 @@ use Rattle.gap_pass.specs.LatestGaps.{AreLatest, HasNone}
 use Rattle.gap_pass.specs.LatestGaps as gap_pass
 use Rattle.node_conditions.specs.declared.stands.Stands.{Stands}
 use Rattle.node_conditions.specs.Standing.{RowMayStand}
-use Rattle.node_conditions.specs.Stands.{Somehow, AreFirst, AreStands}
+use Rattle.node_conditions.specs.Stands.{Somehow}
 use Rattle.node_conditions.specs.Laws.{IsTold}
 use Rattle.node_conditions.proofs.Rows.{rows_tell_standing}
 use Rattle.chosen_trees.specs.ChosenTrees.{IsChosenTree}

@@ -9,6 +9,7 @@
 mod executing;
 mod place_error;
 mod placing;
+mod planting;
 mod scheduling;
 
 pub use place_error::PlaceError;

@@ -1,4 +1,4 @@
-use Rattle.std.proofs.Common.{add-one, length, subst, sym, arith, take, ◌≤◌}
+use Rattle.std.proofs.Common.{add-one, length, subst, arith, ◌≤◌}
 use Rattle.std.proofs.lemmas.List.{take_all}
 use Rattle.plan_placer.specs.Executed.{HasStates}
 use Rattle.plan_placer.proofs.Histories.{states_first, more_states, stopped_at, as_many}
