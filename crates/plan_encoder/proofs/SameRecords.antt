@@ -70,7 +70,7 @@ module _ (c : Compiled) where
       alike = alike_trees N (words c) (top_work c) (words_tell c h mode sound is) plan tree other node another t o
 
       -- a child that is no check is an action or a task of the problem
-      child_known : (j : ℕ) (q : Address) (k : Label N) → label_at N tree (j ∷ q) ≡ Some k → is_check (label_work k) ≡ false
+      pub child_known : (j : ℕ) (q : Address) (k : Label N) → label_at N tree (j ∷ q) ≡ Some k → is_check (label_work k) ≡ false
           → IsKnown c (label_work k)
       child_known j q k e n =
           let (g, up) = parent_label N tree j q (k, e) in

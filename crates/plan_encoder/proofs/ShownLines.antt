@@ -34,7 +34,7 @@ use Rattle.plan_encoder.specs.Laws.{ShownAreLines}
 use Rattle.plan_encoder.proofs.CompiledMethods.{head_no_check}
 
 -- the place of the n-th of different nodes
-place_is : (xs : List Address) (n : ℕ) (q : Address) → AreDifferent xs → slice_get xs n ≡ Some q → place xs q ≡ n
+pub place_is : (xs : List Address) (n : ℕ) (q : Address) → AreDifferent xs → slice_get xs n ≡ Some q → place xs q ≡ n
 place_is [] n q d e = absurd cc
 place_is (x ∷ xs) zero q d e = ap (λ b. cond b zero (suc (place xs q))) (subst (λ z. same_address x z ≡ true) (let f : x ≡ q = cc in f) (address_same_itself x))
 place_is (x ∷ xs) (suc n) q d e = go (place_is xs n q d.1 e) (same_address x q) refl

@@ -1,1 +1,4 @@
+pub mod Planting
+pub mod Executed
 pub mod Placing
+pub mod Scheduling

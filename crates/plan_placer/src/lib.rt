@@ -6,8 +6,11 @@
 //! shows it; else the first sentence that says why.
 #![tactic(auto)]
 
+mod executing;
 mod place_error;
 mod placing;
+mod planting;
+mod scheduling;
 
 pub use place_error::PlaceError;
 pub use placing::place;

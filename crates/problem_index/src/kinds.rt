@@ -76,7 +76,7 @@ impl Drop for Kinds {
 
 impl Kinds {
     /// Finds the parts of each of the types, and its objects.
-    pub(crate) fn new(alloc: Global, types: &Types, objects: &List<Object>) -> Result<Kinds, Memory>
+    pub fn new(alloc: Global, types: &Types, objects: &List<Object>) -> Result<Kinds, Memory>
         requires listed { AreListed types.now }
         requires few { length objects.now < 2 ^ 32 }
         ensures kinds { IfOk result (spec.AreKinds types.now objects.now) }
