@@ -1,5 +1,5 @@
 -- Steps that were told: what is true of one value of the two texts is true of each.
-use Rattle.std.proofs.Common.{ℕ, ◌≡◌, ◌≤◌, List, [], ◌∷◌, Contains, refl, sym, subst, ⊎_elim, arith}
+use Rattle.std.proofs.Common.{ℕ, ◌≡◌, ◌≤◌, List, [], ◌∷◌, Contains, refl, sym, subst, inl, inr, ⊎_elim, arith}
 use Rattle.outside_io.specs.Sink.{SinkState}
 use Rattle.plan_model.specs.declared.steps.GroundAction.{GroundAction}
 use Rattle.plan_model.specs.declared.values.Compiled.{Compiled}
@@ -18,10 +18,13 @@ use Rattle.hplan_text.specs.declared.values.HPlan.{HPlan}
 use Rattle.hplan_text.specs.ShownLaws.{IsShownOnce}
 use Rattle.hplan_text.specs.ShownSolutions.{SpellShown}
 use Rattle.hplan_text.proofs.ShownOnce.{each_is_shown_once}
+use Rattle.hplan_text.proofs.SpelledSound.{read-sound}
 use Rattle.plan_encoder.specs.Calls.{lines_of, words, ShowsUnderSomeIds}
-use Rattle.plan_encoder.specs.Laws.{IsOf}
+use Rattle.plan_encoder.specs.Laws.{IsOf, SomeSolutionShows}
 use Rattle.plan_encoder.proofs.ShownLines.{shown_are_lines}
+use Rattle.placements.specs.Laws.{IsRefused}
 use Rattle.placements.proofs.PlacedPlans.{placed_are_solutions}
+use Rattle.placements.proofs.RefusedPlans.{refused_are_shown_by_none}
 use Rattle.step_texts.specs.StepTexts.{IsSpelled, slots_for, steps_text}
 use Rattle.decode_answers.specs.DecodeLaws.{IsDecodable, ValuesAreDecodedAlike}
 use Rattle.command_words.specs.Words.{EncodeRequest}
@@ -30,8 +33,9 @@ use Rattle.htn_cli.specs.Problem.{SpellProblem}
 use Rattle.htn_cli.specs.Refusal.{line_of}
 use Rattle.htn_cli.specs.Sent.{TakesWhole, Told}
 use Rattle.htn_cli.specs.promise.Problems.{ForSome}
-use Rattle.htn_cli.specs.promise.Steps.{TellsSteps, TellsNoSteps}
+use Rattle.htn_cli.specs.promise.Steps.{SaysWhy, TellsSteps, TellsNoSteps}
 use Rattle.htn_cli.specs.declared.refusal.Finding.{Finding}
+use Rattle.htn_cli.specs.declared.refusal.Finding.TheVariants as finding
 use Rattle.htn_cli.specs.declared.refusal.Refusal.TheVariants as refused
 use Rattle.htn_cli.proofs.EachProblem.{faithful_of_each}
 
@@ -56,16 +60,29 @@ module _ (request : EncodeRequest) (d p hplan : List ℕ) (c : Compiled) (plan :
   here : (Is : Compiled → Type 0) → Is c → ForSome d p request.checks Is
   here Is is = (source.value, c, source.read.spelled, source.compiled_is, is)
 
+  of : IsOf source.value request.checks c
+  of = record { sound = source.read.sound; ordered = source.read.ordered; compiled = source.compiled_is }
+
+  -- no solution shows a plan that is refused by a sentence
+  not_shown : IsRefused c plan → SomeSolutionShows c plan → ⊥
+  not_shown = refused_are_shown_by_none c source.value request.checks of plan (read-sound hplan plan spelled.read)
+
+  none_shown : (f : Finding) → IsFound c plan (slots_of request) f → ((width : ℕ) → f ≡ finding.NeedsBound width → ⊥) → SomeSolutionShows c plan → ⊥
+  none_shown (finding.NoMatch id) is wide = not_shown (inl (id, is))
+  none_shown (finding.NotExecutable id) is wide = not_shown (inr (inl (id, is)))
+  none_shown finding.GoalFalse is wide = not_shown (inr (inr (inl is)))
+  none_shown finding.NoPlacement is wide = not_shown (inr (inr (inr is)))
+  none_shown (finding.NeedsBound width) is wide = absurd (wide width refl)
+  none_shown _ is wide = absurd is
+
   -- a plan that was said to have no steps
   pub no_steps_here : (f : Finding) → IsFound c plan (slots_of request) f → (err err' : SinkState) → Told (line_of (refused.Finding f)) err err' → TellsNoSteps request d p hplan err err'
-  no_steps_here f is err err' told = record { plan = plan; read = spelled.read; found = f; told = told; is = here (λ c. IsFound c plan (slots_of request) f) is }
+  no_steps_here f is err err' told =
+      record { plan = plan; read = spelled.read; found = f; told = told; says = here (SaysWhy (slots_of request) plan f) (record { sentence = is; none = none_shown f is }) }
 
   module _ (alike : ValuesAreDecodedAlike) (width : ℕ) (steps : List GroundAction) (is : IsSpelled c plan (slots_for (slots_of request) width) width steps) where
     abbrev slots : ℕ
     slots = slots_for (slots_of request) width
-
-    of : IsOf source.value request.checks c
-    of = record { sound = source.read.sound; ordered = source.read.ordered; compiled = source.compiled_is }
 
     placed : IsSolution c is.tree is.order × ShowsUnderSomeIds c plan is.tree is.order
     placed = placed_are_solutions c source.value request.checks of plan is.tree is.order is.placed

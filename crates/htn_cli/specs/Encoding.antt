@@ -51,16 +51,17 @@ module _ (request : EncodeRequest) (domain problem hplan : List ℕ) where
   abbrev pub RefusesEncode : Refusal → Type 0
   RefusesEncode (refused.Limit (limit.Lines n)) =
       (compiled : Compiled) × (plan : HPlan) × SpellHPlan compiled plan × (n ≡ count_of plan) × (most_lines < n)
-  RefusesEncode (refused.Finding f) = (compiled : Compiled) × (plan : HPlan) × SpellFewLines compiled plan × IsFound compiled plan (slots_of request) f
+  RefusesEncode (refused.Finding f) =
+      (compiled : Compiled) × (plan : HPlan) × SpellFewLines compiled plan × IsFound compiled plan (slots_of request) f
   RefusesEncode (refused.Limit (limit.Slots n)) = (request.numeral ≡ None)
       × ((compiled : Compiled) × (plan : HPlan) × SpellFewLines compiled plan × HasWidth compiled plan n × (most_slots < n))
   RefusesEncode (refused.Limit (limit.Output n)) =
-      (compiled : Compiled) × (plan : HPlan) × (text : List ℕ) × SpellFewLines compiled plan × IsTextOf compiled plan (slots_of request) text
-      × (n ≡ capped (length text)) × (longest_output < n)
+      (compiled : Compiled) × (plan : HPlan) × (text : List ℕ) × SpellFewLines compiled plan
+      × IsTextOf compiled plan (slots_of request) text × (n ≡ capped (length text)) × (longest_output < n)
   RefusesEncode _ = ⊥
 
   -- and what is given: the text of the steps that spell the latest schedule of the plan
   abbrev pub GivesSteps : Output → Type 0
   GivesSteps output =
-      (compiled : Compiled) × (plan : HPlan) × (text : List ℕ) × SpellFewLines compiled plan × IsTextOf compiled plan (slots_of request) text
-      × (output ≡ told_alone text)
+      (compiled : Compiled) × (plan : HPlan) × (text : List ℕ) × SpellFewLines compiled plan
+      × IsTextOf compiled plan (slots_of request) text × (output ≡ told_alone text)

@@ -1,11 +1,12 @@
 -- What is promised of steps that were told for a hierarchical plan, or of a plan that was said to have none, for all that the files tell of
 -- the inputs.
 -- Source: this project's, after the translation of Alford et al., "Bound to Plan", ICAPS 2016.
-use Rattle.std.specs.Prelude.{ℕ, ◌≡◌, List, [], ◌∷◌}
+use Rattle.std.specs.Prelude.{ℕ, ◌≡◌, List, [], ◌∷◌, Option}
 use Rattle.outside_io.specs.Files.{FilesState}
 use Rattle.outside_io.specs.Sink.{SinkState}
 use Rattle.plan_model.specs.declared.options.Style.{Style}
 use Rattle.plan_model.specs.declared.steps.GroundAction.{GroundAction}
+use Rattle.plan_model.specs.declared.values.Compiled.{Compiled}
 use Rattle.plan_model.specs.declared.values.Pddl.{Pddl}
 use Rattle.plan_texts.specs.PrintedTexts.{domain_text, problem_text}
 use Rattle.slot_encoding.specs.Printed.{IsPrinted}
@@ -15,6 +16,7 @@ use Rattle.hplan_text.specs.declared.values.HPlan.{HPlan}
 use Rattle.hplan_text.specs.Reading.{IsHPlanRead}
 use Rattle.hplan_text.specs.ShownSolutions.{SpellShown}
 use Rattle.plan_encoder.specs.Calls.{lines_of}
+use Rattle.plan_encoder.specs.Laws.{SomeSolutionShows}
 use Rattle.step_texts.specs.StepTexts.{IsSpelled, slots_for, steps_text}
 use Rattle.command_words.specs.Names.{Word}
 use Rattle.command_words.specs.Words.{EncodeRequest, AsksEncode}
@@ -23,8 +25,14 @@ use Rattle.htn_cli.specs.Told.{AreToldToRead}
 use Rattle.htn_cli.specs.Refusal.{line_of}
 use Rattle.htn_cli.specs.Sent.{TakesWhole, Told}
 use Rattle.htn_cli.specs.declared.refusal.Finding.{Finding}
+use Rattle.htn_cli.specs.declared.refusal.Finding.TheVariants as finding
 use Rattle.htn_cli.specs.declared.refusal.Refusal.TheVariants as refused
 use Rattle.htn_cli.specs.promise.Problems.{ForEach, ForSome}
+
+-- why a plan has no steps: the sentence of a finding; and but for a number of slots that is too small, no solution shows the plan
+pub record SaysWhy (given : Option ℕ) (plan : HPlan) (found : Finding) (c : Compiled) : Type 0 where
+  pub sentence : IsFound c plan given found
+  pub none : ((width : ℕ) → found ≡ finding.NeedsBound width → ⊥) → SomeSolutionShows c plan → ⊥
 
 module _ (request : EncodeRequest) (d p hplan : List ℕ) where
   -- steps that were told: they spell the latest schedule of the plan that the third text spells with the lowest of the slots, whose number
@@ -53,9 +61,10 @@ module _ (request : EncodeRequest) (d p hplan : List ℕ) where
     pub read : IsHPlanRead hplan plan
     pub found : Finding
     pub told : Told (line_of (refused.Finding found)) err err'
-    pub is : ForSome d p request.checks (λ c. IsFound c plan (slots_of request) found)
+    pub says : ForSome d p request.checks (SaysWhy (slots_of request) plan found)
 
 module _ (words : List Word) (files : FilesState) (out out' : SinkState) where
   abbrev pub HasSteps : Type 0
   HasSteps = (request : EncodeRequest) (d p hplan : List ℕ) → AsksEncode words request
-      → AreToldToRead files (request.domain ∷ request.problem ∷ request.hplan ∷ []) (d ∷ p ∷ hplan ∷ []) → TellsSteps request d p hplan out out'
+      → AreToldToRead files (request.domain ∷ request.problem ∷ request.hplan ∷ []) (d ∷ p ∷ hplan ∷ [])
+      → TellsSteps request d p hplan out out'
