@@ -1,7 +1,7 @@
 -- Trees that are the same but for their names have the same gap functions, the same schedules of them and the same lowest slots.
-use Rattle.std.proofs.Common.{ℕ, suc, ◌≡◌, ◌≤◌, ◌⊎◌, inl, inr, List, [], ◌∷◌, ◌++◌, Some, refl, subst, sym, ap, ◌∙◌, Contains}
+use Rattle.std.proofs.Common.{ℕ, suc, ◌≡◌, ◌⊎◌, inl, inr, List, [], ◌∷◌, ◌++◌, Some, refl, subst, sym, ap, ◌∙◌, Contains}
 use Rattle.plan_model.specs.task_networks.Net.{Net}
-use Rattle.plan_model.specs.task_networks.Tree.{Tree, Trees, open_leaf, done, split, none, more, Label, waits, ran, used, Address, label_at, IsAddress}
+use Rattle.plan_model.specs.task_networks.Tree.{Tree, Trees, open_leaf, done, split, none, more, Label, waits, ran, used, Address, label_at}
 use Rattle.plan_model.specs.task_networks.Schedule.{Blocks, IsDue}
 use Rattle.plan_model.specs.task_networks.Preorder.{nodes_at, nodes_from}
 use Rattle.plan_model.specs.task_networks.Spelling.{others}

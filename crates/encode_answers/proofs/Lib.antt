@@ -1,1 +1,3 @@
 pub mod AlikeSchedules
+pub mod AlikeLines
+pub mod AlikeFits
