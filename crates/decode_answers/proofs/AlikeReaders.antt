@@ -273,7 +273,7 @@ module _ (c d : Compiled) (t : AreTwins c d) where
 abbrev pub reader : Compiled → Reader State GroundAction
 reader c = record { net = network c; Allows = Allows c; next = next c; Named = IsNamed c; Reads = IsReadAs c; top = top_work c; first = initial c; Goal = IsGoal c }
 
-label_back : (c d : Compiled) (k : Label (network c)) (l : Label (network d)) → SameLabel (network c) (network d) Equal Equal k l → SameLabel (network d) (network c) Equal Equal l k
+pub label_back : (c d : Compiled) (k : Label (network c)) (l : Label (network d)) → SameLabel (network c) (network d) Equal Equal k l → SameLabel (network d) (network c) Equal Equal l k
 label_back c d (waits v) (waits w) s = sym s
 label_back c d (ran v) (ran w) s = sym s
 label_back c d (used g) (used m) s = sym s
