@@ -47,8 +47,10 @@ module _ (c d : Compiled) (t : AreTwins c d) where
   -- the same values are chosen
   module _ (values : Address → List ℕ) where
     mutual
-      chosen_at : (tree : Tree (network c)) (other : Tree (network d)) → SameTree (network c) (network d) Equal Equal tree other → (p : Address)
-          → SameTree (network c) (network d) Equal Equal (relabelled (network c) (work_with values) (method_with values) p tree) (relabelled (network d) (work_with values) (method_with values) p other)
+      chosen_at : (tree : Tree (network c)) (other : Tree (network d)) → SameTree (network c) (network d) Equal Equal tree other
+          → (p : Address)
+          → SameTree (network c) (network d) Equal Equal (relabelled (network c) (work_with values) (method_with values) p tree)
+          (relabelled (network d) (work_with values) (method_with values) p other)
       chosen_at (open_leaf v) (open_leaf w) s p = ap (work_with values p) s
       chosen_at (done v) (done w) s p = ap (work_with values p) s
       chosen_at (split g ts) (split m us) s p = (ap (method_with values p) s.0, all_chosen_at ts us s.1 p 0)
@@ -59,8 +61,10 @@ module _ (c d : Compiled) (t : AreTwins c d) where
       chosen_at (split g ts) (open_leaf w) s p = absurd s
       chosen_at (split g ts) (done w) s p = absurd s
 
-      all_chosen_at : (ts : Trees (network c)) (us : Trees (network d)) → SameTrees (network c) (network d) Equal Equal ts us → (p : Address) (i : ℕ)
-          → SameTrees (network c) (network d) Equal Equal (all_relabelled (network c) (work_with values) (method_with values) p i ts) (all_relabelled (network d) (work_with values) (method_with values) p i us)
+      all_chosen_at : (ts : Trees (network c)) (us : Trees (network d)) → SameTrees (network c) (network d) Equal Equal ts us
+          → (p : Address) (i : ℕ)
+          → SameTrees (network c) (network d) Equal Equal (all_relabelled (network c) (work_with values) (method_with values) p i ts)
+          (all_relabelled (network d) (work_with values) (method_with values) p i us)
       all_chosen_at none none s p i = tt
       all_chosen_at (more x ts) (more y us) s p i = (chosen_at x y s.0 (i ∷ p), all_chosen_at ts us s.1 p (suc i))
       all_chosen_at none (more y us) s p i = absurd s
@@ -75,15 +79,19 @@ module _ (c d : Compiled) (t : AreTwins c d) where
       → AreAllowed (network c) State (Allows c) (next c) (initial c) ks → AreAllowed (network d) State (Allows d) (next d) (initial d) ls
   executable_to ks ls same a =
       let alike = alike_readers c d t in
-      allowed_to (network c) (network d) Equal Equal State HoldTheSame (Allows c) (next c) (Allows d) (next d) (λ S S' h k l z. (alike.allows S S' h k l z).0) alike.next ks ls same (initial c) (initial d) alike.first a
+      allowed_to (network c) (network d) Equal Equal State HoldTheSame (Allows c) (next c) (Allows d) (next d)
+      (λ S S' h k l z. (alike.allows S S' h k l z).0) alike.next ks ls same (initial c) (initial d) alike.first a
 
   pub states_same : (ks : List (Label (network c))) (ls : List (Label (network d))) → AreSame SameOf ks ls
-      → HoldTheSame (last_state (network c) State (Allows c) (next c) (initial c) ks) (last_state (network d) State (Allows d) (next d) (initial d) ls)
+      → HoldTheSame (last_state (network c) State (Allows c) (next c) (initial c) ks)
+      (last_state (network d) State (Allows d) (next d) (initial d) ls)
   states_same ks ls same =
       let alike = alike_readers c d t in
-      last_same (network c) (network d) Equal Equal State HoldTheSame (Allows c) (next c) (Allows d) (next d) (λ S S' h k l z. (alike.allows S S' h k l z).0) alike.next ks ls same (initial c) (initial d) alike.first
+      last_same (network c) (network d) Equal Equal State HoldTheSame (Allows c) (next c) (Allows d) (next d)
+      (λ S S' h k l z. (alike.allows S S' h k l z).0) alike.next ks ls same (initial c) (initial d) alike.first
 
-  pub goal_after_to : (ks : List (Label (network c))) (ls : List (Label (network d))) → AreSame SameOf ks ls → GoalAfter c ks → GoalAfter d ls
+  pub goal_after_to : (ks : List (Label (network c))) (ls : List (Label (network d))) → AreSame SameOf ks ls → GoalAfter c ks
+      → GoalAfter d ls
   goal_after_to ks ls same g = ((alike_readers c d t).goal _ _ (states_same ks ls same)).0 g
 
   module _ (tree : Tree (network c)) (other : Tree (network d)) (s : SameTree (network c) (network d) Equal Equal tree other) where
@@ -105,24 +113,32 @@ module _ (c d : Compiled) (t : AreTwins c d) where
       abbrev state_same : (i : ℕ) → HoldTheSame (state_in c tree ks i) (state_in d other ls i)
       state_same i = states_same (take i ks) (take i ls) (taken_same SameOf i ks ls same)
 
-      allowed_in : (i : ℕ) (k : Label (network c)) (l : Label (network d)) → SameOf k l → Allows c (state_in c tree ks i) k → Allows d (state_in d other ls i) l
+      allowed_in : (i : ℕ) (k : Label (network c)) (l : Label (network d)) → SameOf k l → Allows c (state_in c tree ks i) k
+          → Allows d (state_in d other ls i) l
       allowed_in i k l e = ((alike_readers c d t).allows _ _ (state_same i) k l e).0
 
-      work_stands : (p : Address) (w : Work) (values : List ℕ) (i : ℕ) → WorkMayStand c tree ks p w values i → WorkMayStand d other ls p w values i
+      work_stands : (p : Address) (w : Work) (values : List ℕ) (i : ℕ) → WorkMayStand c tree ks p w values i
+          → WorkMayStand d other ls p w values i
       work_stands p (action a args) values i x = allowed_in i (ran (action a args)) (ran (action a args)) refl x
       work_stands p (check m old) values i x = (parent_to p values x.0, allowed_in i (ran (check m values)) (ran (check m values)) refl x.1)
       work_stands p (task k args) values i x = x
 
       label_stands : (p : Address) (values : List ℕ) (i : ℕ) (o : Option (Label (network c))) (u : Option (Label (network d)))
-          → SameOption (network c) (network d) Equal Equal SameOf o u → LabelMayStand c tree ks p o values i → LabelMayStand d other ls p u values i
+          → SameOption (network c) (network d) Equal Equal SameOf o u → LabelMayStand c tree ks p o values i
+          → LabelMayStand d other ls p u values i
       label_stands p values i None None e x = x
       label_stands p values i (Some (waits v)) (Some (waits w)) e x = x
-      label_stands p values i (Some (ran v)) (Some (ran w)) e x = subst (λ z. WorkMayStand d other ls p z values i) e (work_stands p v values i x)
-      label_stands p values i (Some (used g)) (Some (used m)) e x = subst (λ z. LabelMayStand d other ls p (Some (used z)) values i) e (method_stands x)
+      label_stands p values i (Some (ran v)) (Some (ran w)) e x = subst (λ z. WorkMayStand d other ls p z values i) e
+          (work_stands p v values i x)
+      label_stands p values i (Some (used g)) (Some (used m)) e x = subst (λ z. LabelMayStand d other ls p (Some (used z)) values i) e
+          (method_stands x)
         where
           method_stands : LabelMayStand c tree ks p (Some (used g)) values i → LabelMayStand d other ls p (Some (used g)) values i
           method_stands (inl k) = inl (subst IsTrue (checked_same g) k)
-          method_stands (inr y) = inr (can_have_to g values y.0, allowed_in i (used (with_values g values)) (used (with_values g values)) refl y.1)
+          method_stands (inr y) = inr (
+            can_have_to g values y.0,
+            allowed_in i (used (with_values g values)) (used (with_values g values)) refl y.1,
+          )
       label_stands p values i None (Some l) e x = absurd e
       label_stands p values i (Some k) None e x = absurd e
       label_stands p values i (Some (waits v)) (Some (ran w)) e x = absurd e
@@ -134,7 +150,8 @@ module _ (c d : Compiled) (t : AreTwins c d) where
 
       -- where a node may stand with these values, or with some
       pub stands_to : (p : Address) (values : List ℕ) (i : ℕ) → MayStand c tree ks p values i → MayStand d other ls p values i
-      stands_to p values i x = label_stands p values i (label_at (network c) tree p) (label_at (network d) other p) (same_label c d t tree other s p) x
+      stands_to p values i x = label_stands p values i (label_at (network c) tree p) (label_at (network d) other p)
+          (same_label c d t tree other s p) x
 
       pub stands_somehow_to : (p : Address) (i : ℕ) → MayStandSomehow c tree ks p i → MayStandSomehow d other ls p i
       stands_somehow_to p i (values, x) = (values, stands_to p values i x)

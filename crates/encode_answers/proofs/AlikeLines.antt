@@ -18,7 +18,10 @@ use Rattle.decode_answers.proofs.AlikeShown.{object_same, method_same, name_same
 
 module _ (c d : Compiled) (t : AreTwins c d) where
   pub call_same : (w : Work) → call c w ≡ call d w
-  call_same w = let e = name_same c d t w in let os = objects_same c d t w in λ i. record { name = e i; args = map (λ o. object_same c d t o i) (os i) }
+  call_same w =
+      let e = name_same c d t w in
+      let os = objects_same c d t w in
+      λ i. record { name = e i; args = map (λ o. object_same c d t o i) (os i) }
 
   pub split_same : (g : GroundMethod) → (words c).split g ≡ (words d).split g
   split_same g =
@@ -30,14 +33,18 @@ module _ (c d : Compiled) (t : AreTwins c d) where
   subtasks_same g = ap (filter (λ w. not (is_check w))) (works_same c d t g)
 
   children_said : (g : GroundMethod) → shown_children (network c) (words c) g ≡ shown_children (network d) (words d) g
-  children_said g = let e = works_same c d t g in λ k. filter (λ i. is_shown (network c) (words c) (slice_get (e k) i)) (numbers 0 (length (e k)))
+  children_said g =
+      let e = works_same c d t g in
+      λ k. filter (λ i. is_shown (network c) (words c) (slice_get (e k) i)) (numbers 0 (length (e k)))
 
   abbrev SameLabels : Option (Label (network c)) → Option (Label (network d)) → Type 0
   SameLabels = SameOption (network c) (network d) Equal Equal (SameLabel (network c) (network d) Equal Equal)
 
   -- what is told of a label
-  module _ {A : Type 0} (f : Option (Label (network c)) → A) (g : Option (Label (network d)) → A) (nothing : f None ≡ g None) (waiting : (w : Work) → f (Some (waits w)) ≡ g (Some (waits w)))
-      (finished : (w : Work) → f (Some (ran w)) ≡ g (Some (ran w))) (split : (m : GroundMethod) → f (Some (used m)) ≡ g (Some (used m))) where
+  module _ {A : Type 0} (f : Option (Label (network c)) → A) (g : Option (Label (network d)) → A) (nothing : f None ≡ g None)
+      (waiting : (w : Work) → f (Some (waits w)) ≡ g (Some (waits w)))
+      (finished : (w : Work) → f (Some (ran w)) ≡ g (Some (ran w)))
+      (split : (m : GroundMethod) → f (Some (used m)) ≡ g (Some (used m))) where
     pub told : (o : Option (Label (network c))) (u : Option (Label (network d))) → SameLabels o u → f o ≡ g u
     told None None s = nothing
     told (Some (waits v)) (Some (waits w)) s = waiting v ∙ ap (λ z. g (Some (waits z))) s
@@ -52,9 +59,13 @@ module _ (c d : Compiled) (t : AreTwins c d) where
     told (Some (used m)) (Some (waits w)) s = absurd s
     told (Some (used m)) (Some (ran w)) s = absurd s
 
-  split_told : (p : Address) (g : GroundMethod) → split_of_label (network c) (words c) (Some (used g)) p ≡ split_of_label (network d) (words d) (Some (used g)) p
+  split_told : (p : Address) (g : GroundMethod)
+      → split_of_label (network c) (words c) (Some (used g)) p ≡ split_of_label (network d) (words d) (Some (used g)) p
   split_told [] g = refl
-  split_told (i ∷ p) g = let e = split_same g in let f = children_said g in λ z. Some (record { id = i ∷ p; split = e z; children = map (λ k. k ∷ i ∷ p) (f z) })
+  split_told (i ∷ p) g =
+      let e = split_same g in
+      let f = children_said g in
+      λ z. Some (record { id = i ∷ p; split = e z; children = map (λ k. k ∷ i ∷ p) (f z) })
 
   module _ (tree : Tree (network c)) (other : Tree (network d)) (s : SameTree (network c) (network d) Equal Equal tree other) where
     pub same_label : (p : Address) → SameLabels (label_at (network c) tree p) (label_at (network d) other p)
@@ -62,7 +73,8 @@ module _ (c d : Compiled) (t : AreTwins c d) where
 
     children_same : (p : Address) → children_shown (network c) (words c) tree p ≡ children_shown (network d) (words d) other p
     children_same p =
-        told (λ o. children_of_label (network c) (words c) o p) (λ o. children_of_label (network d) (words d) o p) refl (λ w. refl) (λ w. refl) (λ g. ap (map (λ i. i ∷ p)) (children_said g))
+        told (λ o. children_of_label (network c) (words c) o p) (λ o. children_of_label (network d) (words d) o p) refl (λ w. refl)
+        (λ w. refl) (λ g. ap (map (λ i. i ∷ p)) (children_said g))
         (label_at (network c) tree p) (label_at (network d) other p) (same_label p)
 
     step_line_same : (p : Address) → step_line (network c) (words c) tree p ≡ step_line (network d) (words d) other p
@@ -73,7 +85,8 @@ module _ (c d : Compiled) (t : AreTwins c d) where
 
     split_line_same : (p : Address) → split_line (network c) (words c) tree p ≡ split_line (network d) (words d) other p
     split_line_same p =
-        told (λ o. split_of_label (network c) (words c) o p) (λ o. split_of_label (network d) (words d) o p) refl (λ w. refl) (λ w. refl) (split_told p)
+        told (λ o. split_of_label (network c) (words c) o p) (λ o. split_of_label (network d) (words d) o p) refl (λ w. refl) (λ w. refl)
+        (split_told p)
         (label_at (network c) tree p) (label_at (network d) other p) (same_label p)
 
     lines_same : (order : List Address) → lines (network c) (words c) tree order ≡ lines (network d) (words d) other order
@@ -85,10 +98,14 @@ module _ (c d : Compiled) (t : AreTwins c d) where
 
     -- the other tree shows the same plan
     pub shows_ids_to : (plan : HPlan) (order : List Address) → ShowsUnderSomeIds c plan tree order → ShowsUnderSomeIds d plan other order
-    shows_ids_to plan order (new, r) = (new, subst (IsRenumbering new (lines_of plan)) (ap (λ z. renamed (place (line_ids z)) z) (lines_same order)) r)
+    shows_ids_to plan order (new, r) = (
+      new,
+      subst (IsRenumbering new (lines_of plan)) (ap (λ z. renamed (place (line_ids z)) z) (lines_same order)) r,
+    )
 
     -- it is a tree of the same plan
-    tree_of_to : (plan : PlanLines ℕ Call Decomposed) (node : ℕ → Address) → IsTreeOf (network c) (words c) tree plan node → IsTreeOf (network d) (words d) other plan node
+    tree_of_to : (plan : PlanLines ℕ Call Decomposed) (node : ℕ → Address) → IsTreeOf (network c) (words c) tree plan node
+        → IsTreeOf (network d) (words d) other plan node
     tree_of_to plan node x = record {
       different = x.different;
       one_to_one = x.one_to_one;

@@ -26,18 +26,27 @@ module _ (M N : Net) (W : M.Work → N.Work → Type 0) (G : M.Method → N.Meth
     nodes_same (split g ts) (open_leaf w) s p = absurd s
     nodes_same (split g ts) (done w) s p = absurd s
 
-    all_nodes_same : (ts : Trees M) (us : Trees N) → SameTrees M N W G ts us → (p : Address) (i : ℕ) → nodes_from M p i ts ≡ nodes_from N p i us
+    all_nodes_same : (ts : Trees M) (us : Trees N) → SameTrees M N W G ts us → (p : Address) (i : ℕ)
+        → nodes_from M p i ts ≡ nodes_from N p i us
     all_nodes_same none none s p i = refl
-    all_nodes_same (more t ts) (more u us) s p i = let e = nodes_same t u s.0 (i ∷ p) in let f = all_nodes_same ts us s.1 p (suc i) in λ k. e k ++ f k
+    all_nodes_same (more t ts) (more u us) s p i =
+        let e = nodes_same t u s.0 (i ∷ p) in
+        let f = all_nodes_same ts us s.1 p (suc i) in
+        λ k. e k ++ f k
     all_nodes_same none (more u us) s p i = absurd s
     all_nodes_same (more t ts) none s p i = absurd s
 
-module _ (M N : Net) (W : M.Work → N.Work → Type 0) (G : M.Method → N.Method → Type 0) (r : IsRenaming M N W G) (t : Tree M) (u : Tree N) (s : SameTree M N W G t u) where
+module _ (M N : Net) (W : M.Work → N.Work → Type 0) (G : M.Method → N.Method → Type 0) (r : IsRenaming M N W G) (t : Tree M) (u : Tree N)
+    (s : SameTree M N W G t u) where
   blocks_to : (x v : Address) → Blocks M t x v → Blocks N u x v
   blocks_to = blocks_back N M (flip W) (flip G) (flipped M N W G r) u t (same_flip M N W G t u s)
 
   due_to : (taken : List Address) (v : Address) → IsDue M t taken v → IsDue N u taken v
-  due_to taken v d = record { fresh = d.fresh; begun = d.begun; clear = λ x a b. d.clear x (address_back M N W G r t u s x a) (blocks_back M N W G r t u s x v b) }
+  due_to taken v d = record {
+    fresh = d.fresh;
+    begun = d.begun;
+    clear = λ x a b. d.clear x (address_back M N W G r t u s x a) (blocks_back M N W G r t u s x v b);
+  }
 
   -- gap functions
   module _ (plan : List Address) (Allowed Other : Address → ℕ → Type 0) (allowed : (p : Address) (i : ℕ) → Allowed p i → Other p i) where
@@ -46,28 +55,34 @@ module _ (M N : Net) (W : M.Work → N.Work → Type 0) (G : M.Method → N.Meth
       range = λ p a. g.range p (address_back M N W G r t u s p a);
       own = g.own;
       children = λ i p a. g.children i p (address_back M N W G r t u s (i ∷ p) a);
-      before = λ x v a b k. g.before x v (address_back M N W G r t u s x a) (address_back M N W G r t u s v b) (blocks_back M N W G r t u s x v k);
+      before = λ x v a b k. g.before x v (address_back M N W G r t u s x a) (address_back M N W G r t u s v b)
+          (blocks_back M N W G r t u s x v k);
       primitive_before = λ x v a b k. g.primitive_before x v a (address_back M N W G r t u s v b) (blocks_back M N W G r t u s x v k);
       allowed = λ p a. allowed p (gap p) (g.allowed p (address_back M N W G r t u s p a));
     }
 
 -- ready nodes, from the one to the other
-module _ (M N : Net) (W : M.Work → N.Work → Type 0) (G : M.Method → N.Method → Type 0) (r : IsRenaming M N W G) (t : Tree M) (u : Tree N) (s : SameTree M N W G t u)
+module _ (M N : Net) (W : M.Work → N.Work → Type 0) (G : M.Method → N.Method → Type 0) (r : IsRenaming M N W G) (t : Tree M) (u : Tree N)
+    (s : SameTree M N W G t u)
     (plan : List Address) (gap : Address → ℕ) (taken : List Address) where
   ready_to : (p : Address) → IsReady M t plan gap taken p → IsReady N u plan gap taken p
   ready_to p x = record { node = address_to M N W G r t u s p x.node; other = x.other; here = x.here; due = due_to M N W G r t u s taken p x.due }
 
-module _ (M N : Net) (W : M.Work → N.Work → Type 0) (G : M.Method → N.Method → Type 0) (r : IsRenaming M N W G) (t : Tree M) (u : Tree N) (s : SameTree M N W G t u) where
+module _ (M N : Net) (W : M.Work → N.Work → Type 0) (G : M.Method → N.Method → Type 0) (r : IsRenaming M N W G) (t : Tree M) (u : Tree N)
+    (s : SameTree M N W G t u) where
   -- the greatest of the gap functions
-  pub latest_to : (plan : List Address) (Allowed Other : Address → ℕ → Type 0) → ((p : Address) (i : ℕ) → Allowed p i → Other p i) → ((p : Address) (i : ℕ) → Other p i → Allowed p i)
+  pub latest_to : (plan : List Address) (Allowed Other : Address → ℕ → Type 0) → ((p : Address) (i : ℕ) → Allowed p i → Other p i)
+      → ((p : Address) (i : ℕ) → Other p i → Allowed p i)
       → (gap : Address → ℕ) → IsLatest M t plan Allowed gap → IsLatest N u plan Other gap
   latest_to plan Allowed Other to from gap l = record {
     is = gaps_to M N W G r t u s plan Allowed Other to gap l.is;
     greatest = λ other g p a. (
-        l.greatest other (gaps_to N M (flip W) (flip G) (flipped M N W G r) u t (same_flip M N W G t u s) plan Other Allowed from other g) p (address_back M N W G r t u s p a));
+        l.greatest other (gaps_to N M (flip W) (flip G) (flipped M N W G r) u t
+        (same_flip M N W G t u s) plan Other Allowed from other g) p (address_back M N W G r t u s p a));
   }
 
-  ready_back : (plan : List Address) (gap : Address → ℕ) (taken : List Address) (p : Address) → IsReady N u plan gap taken p → IsReady M t plan gap taken p
+  ready_back : (plan : List Address) (gap : Address → ℕ) (taken : List Address) (p : Address) → IsReady N u plan gap taken p
+      → IsReady M t plan gap taken p
   ready_back = ready_to N M (flip W) (flip G) (flipped M N W G r) u t (same_flip M N W G t u s)
 
   -- the schedule of gaps
@@ -82,12 +97,20 @@ module _ (M N : Net) (W : M.Work → N.Work → Type 0) (G : M.Method → N.Meth
     }
 
     turn_to : (taken : List Address) (p : Address) → IsTurn M t plan gap taken p → IsTurn N u plan gap taken p
-    turn_to taken p x = record { number = x.number; due = due_to M N W G r t u s taken p x.due; none = λ q y. x.none q (ready_back plan gap taken q y) }
+    turn_to taken p x = record {
+      number = x.number;
+      due = due_to M N W G r t u s taken p x.due;
+      none = λ q y. x.none q (ready_back plan gap taken q y);
+    }
 
     pub schedule_of_to : (order : List Address) → IsScheduleOf M t plan gap order → IsScheduleOf N u plan gap order
-    schedule_of_to order x = record { whole = λ p a. x.whole p (address_back M N W G r t u s p a); each = λ taken rest p e. next_to taken p (x.each taken rest p e) }
+    schedule_of_to order x = record {
+      whole = λ p a. x.whole p (address_back M N W G r t u s p a);
+      each = λ taken rest p e. next_to taken p (x.each taken rest p e);
+    }
       where
-        next_to : (taken : List Address) (p : Address) → IsFirstReady M t plan gap taken p ⊎ IsTurn M t plan gap taken p → IsFirstReady N u plan gap taken p ⊎ IsTurn N u plan gap taken p
+        next_to : (taken : List Address) (p : Address) → IsFirstReady M t plan gap taken p ⊎ IsTurn M t plan gap taken p
+            → IsFirstReady N u plan gap taken p ⊎ IsTurn N u plan gap taken p
         next_to taken p (inl y) = inl (first_ready_to taken p y)
         next_to taken p (inr y) = inr (turn_to taken p y)
 
@@ -117,7 +140,8 @@ module _ (M N : Net) (W : M.Work → N.Work → Type 0) (G : M.Method → N.Meth
     new = λ taken rest p m i parts e c. (let k = back M N W G r t u s p (used m) e in fresh taken rest p m i parts c k.0 k.1 k.2);
   }
     where
-      heir : (p : Address) (m : N.Method) (i : ℕ) → N.heir m ≡ Some i → (k : Label M) → label_at M t p ≡ Some k → SameLabel N M (flip W) (flip G) (used m) k → slot (i ∷ p) ≡ slot p
+      heir : (p : Address) (m : N.Method) (i : ℕ) → N.heir m ≡ Some i → (k : Label M) → label_at M t p ≡ Some k
+          → SameLabel N M (flip W) (flip G) (used m) k → slot (i ∷ p) ≡ slot p
       heir p m i h (waits v) f y = absurd y
       heir p m i h (ran v) f y = absurd y
       heir p m i h (used g) f y = l.heirs p g i f (r.heir g m y ∙ h)
@@ -127,4 +151,5 @@ module _ (M N : Net) (W : M.Work → N.Work → Type 0) (G : M.Method → N.Meth
       fresh taken rest p m i parts c (waits v) f y = absurd y
       fresh taken rest p m i parts c (ran v) f y = absurd y
       fresh taken rest p m i parts c (used g) f y =
-          lowest_for slot taken p g m y i (l.new taken rest p g i parts f (subst (λ z. Contains z i) (sym (others-same M N W G r t u s slot g m y)) c))
+          lowest_for slot taken p g m y i (l.new taken rest p g i parts f
+          (subst (λ z. Contains z i) (sym (others-same M N W G r t u s slot g m y)) c))
