@@ -8,7 +8,7 @@ use Rattle.slot_machine.specs.Reached.{HasLeaf}
 use Rattle.slot_machine.specs.Causes.{IsWaiting}
 use Rattle.decoding.specs.declared.causes.Why.{Why}
 use Rattle.decoding.specs.declared.causes.Why.TheVariants.{UnknownAction, Arguments, SlotHolds, Waiting, SlotTaken, Constraint, Precondition, Unfinished, GoalFalse}
-use Rattle.decoding.specs.FailingAct.{place, slot_in, work_in, new_in, WaitsAt, IsSlotTaken, IsUnmet, ActSentence, AreRead, Sentence, SpellsExecutable, StepFails, EndSentence, EndFails, Fails}
+use Rattle.decoding.specs.FailingAct.{slot_in, work_in, new_in, WaitsAt, IsSlotTaken, IsUnmet, ActSentence, AreRead, Sentence, SpellsExecutable, StepFails, EndSentence, EndFails, Fails}
 use Rattle.renamed_networks.specs.Renamed.{AreSame, IsRenaming, SameLabel}
 use Rattle.renamed_networks.proofs.RenamedTrees.{flip, flipped, Same, same_flip, to_label, open_back, blocks_back}
 use Rattle.renamed_networks.proofs.RenamedRuns.{SameAct, other_tree, spells_to, executable_to}

@@ -32,7 +32,7 @@ use Rattle.decode_answers.proofs.AlikeValues.{HoldTheSame, truth_same, after_sam
 abbrev pub Equal : {A : Type 0} → A → A → Type 0
 Equal x y = x ≡ y
 
-same_list : {A : Type 0} (xs ys : List A) → xs ≡ ys → AreSame Equal xs ys
+pub same_list : {A : Type 0} (xs ys : List A) → xs ≡ ys → AreSame Equal xs ys
 same_list [] [] e = tt
 same_list [] (y ∷ ys) e = absurd cc
 same_list (x ∷ xs) [] e = absurd cc
@@ -53,7 +53,7 @@ module _ (c d : Compiled) (t : AreTwins c d) where
       go None (Some q) r = absurd r
       go (Some p) None r = absurd r
 
-  works_same : (g : GroundMethod) → (network c).works g ≡ (network d).works g
+  pub works_same : (g : GroundMethod) → (network c).works g ≡ (network d).works g
   works_same g = go (slice_get c.methods g.number) (slice_get d.methods g.number) (plan_place c d t g.number)
     where
       go : (o u : Option MethodPlan) → StandTogether (SamePlan c d) o u → option_map_or (subtasks_of g) o [] ≡ option_map_or (subtasks_of g) u []
@@ -117,7 +117,7 @@ module _ (c d : Compiled) (t : AreTwins c d) where
         subst (IsDeclared d) (ap (λ z. ground_work g z.1 (values_of g.values z.2)) e) (declared_to (child_of g x) (m.declared x (has-contains p.schema.children x h))));
   }
 
-  ground_to : (g : GroundMethod) → IsGroundMethod c g → IsGroundMethod d g
+  pub ground_to : (g : GroundMethod) → IsGroundMethod c g → IsGroundMethod d g
   ground_to g x =
       let (q, is, r) = at_some (SamePlan c d) (slice_get c.methods g.number) (slice_get d.methods g.number) (plan_place c d t g.number) x.plan x.is in
       record { plan = q; is = is; typed = typed_to c d t x.plan.schema.params q.schema.params g.values (plan_types c d t x.plan q r) x.typed; met = met_to g x.plan q r x.met }
@@ -273,7 +273,7 @@ module _ (c d : Compiled) (t : AreTwins c d) where
 abbrev pub reader : Compiled → Reader State GroundAction
 reader c = record { net = network c; Allows = Allows c; next = next c; Named = IsNamed c; Reads = IsReadAs c; top = top_work c; first = initial c; Goal = IsGoal c }
 
-label_back : (c d : Compiled) (k : Label (network c)) (l : Label (network d)) → SameLabel (network c) (network d) Equal Equal k l → SameLabel (network d) (network c) Equal Equal l k
+pub label_back : (c d : Compiled) (k : Label (network c)) (l : Label (network d)) → SameLabel (network c) (network d) Equal Equal k l → SameLabel (network d) (network c) Equal Equal l k
 label_back c d (waits v) (waits w) s = sym s
 label_back c d (ran v) (ran w) s = sym s
 label_back c d (used g) (used m) s = sym s

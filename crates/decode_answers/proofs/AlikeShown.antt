@@ -25,7 +25,7 @@ use Rattle.decode_answers.proofs.AlikeValues.{HoldTheSame, StandTogether, SamePl
 use Rattle.decode_answers.proofs.AlikeReaders.{Equal, reader, head_same, count_same, objects_same, step_same, act_twin, renaming, alike_readers}
 
 module _ (c d : Compiled) (t : AreTwins c d) where
-  object_same : (o : ℕ) → object_name c o ≡ object_name d o
+  pub object_same : (o : ℕ) → object_name c o ≡ object_name d o
   object_same o = go (slice_get c.hddl.objects o) (slice_get d.hddl.objects o) (object_place c d t o)
     where
       go : (x y : Option Object) → StandTogether (SameObject c d) x y → object_name_by c x ≡ object_name_by d y
@@ -34,7 +34,7 @@ module _ (c d : Compiled) (t : AreTwins c d) where
       go None (Some y) r = absurd r
       go (Some x) None r = absurd r
 
-  method_same : (m : ℕ) → method_name_by c (slice_get c.methods m) ≡ method_name_by d (slice_get d.methods m)
+  pub method_same : (m : ℕ) → method_name_by c (slice_get c.methods m) ≡ method_name_by d (slice_get d.methods m)
   method_same m = go (slice_get c.methods m) (slice_get d.methods m) (plan_place c d t m)
     where
       go : (o u : Option MethodPlan) → StandTogether (SamePlan c d) o u → method_name_by c o ≡ method_name_by d u
@@ -43,7 +43,7 @@ module _ (c d : Compiled) (t : AreTwins c d) where
       go None (Some q) r = absurd r
       go (Some p) None r = absurd r
 
-  name_same : (w : Work) → name_of c w ≡ name_of d w
+  pub name_same : (w : Work) → name_of c w ≡ name_of d w
   name_same (action a args) = go (slice_get c.hddl.actions a) (slice_get d.hddl.actions a) (action_place c d t a)
     where
       go : (o u : Option ActionSchema) → StandTogether (SameAction c d) o u → action_name_by c o ≡ action_name_by d u
@@ -69,7 +69,7 @@ module _ (c d : Compiled) (t : AreTwins c d) where
   -- what is told of a label by which kind of node it is
   module _ (f : Option (Label (network c)) → Bool) (g : Option (Label (network d)) → Bool) (nothing : f None ≡ g None) (waiting : (w : Work) → f (Some (waits w)) ≡ g (Some (waits w)))
       (done : (w : Work) → f (Some (ran w)) ≡ g (Some (ran w))) (split : (m : GroundMethod) → f (Some (used m)) ≡ g (Some (used m))) where
-    told_same : (o : Option (Label (network c))) (u : Option (Label (network d))) → SameLabels o u → f o ≡ g u
+    pub told_same : (o : Option (Label (network c))) (u : Option (Label (network d))) → SameLabels o u → f o ≡ g u
     told_same None None s = nothing
     told_same (Some (waits v)) (Some (waits w)) s = waiting v ∙ ap (λ z. g (Some (waits z))) s
     told_same (Some (ran v)) (Some (ran w)) s = done v ∙ ap (λ z. g (Some (ran z))) s
@@ -171,7 +171,7 @@ module _ (c d : Compiled) (t : AreTwins c d) where
       nodes = subst (λ (z : Type 0). z) (λ i. AreNodes d other order (length (primitives_same i)) (lowers_same i) plan.nodes) (nodes_to (length (primitives_in c tree order)) (lower_in c tree order) plan.nodes a.nodes);
     }
 
-  steps_same : (acts : List (Act (network c))) (others : List (Act (network d))) → AreSame (SameAct (network c) (network d) Equal Equal) acts others → map (step_of c) acts ≡ map (step_of d) others
+  pub steps_same : (acts : List (Act (network c))) (others : List (Act (network d))) → AreSame (SameAct (network c) (network d) Equal Equal) acts others → map (step_of c) acts ≡ map (step_of d) others
   steps_same [] [] s = refl
   steps_same (a ∷ acts) (e ∷ others) s = let f = step_same c d t a ∙ ap (step_of d) (act_twin c d t a e s.0) in let g = steps_same acts others s.1 in λ i. f i ∷ g i
   steps_same [] (e ∷ others) s = absurd s

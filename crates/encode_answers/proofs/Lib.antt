@@ -3,3 +3,9 @@ pub mod OnceValues
 pub mod OncePlaced
 pub mod OnceFindings
 pub mod Once
+pub mod AlikeSchedules
+pub mod AlikeLines
+pub mod AlikeFits
+pub mod AlikeChoices
+pub mod AlikePlaced
+pub mod Alike

@@ -1,8 +1,13 @@
 //! The laws, each the contract of a function that does nothing.
 
-ghost use Rattle.encode_answers.specs.EncodeLaws.{EachIsEncodedOnce};
+ghost use Rattle.encode_answers.specs.EncodeLaws.{EachIsEncodedOnce, ValuesAreEncodedAlike};
 
 /// A plan comes to one text, to its length, or to one sentence that says why there is none.
 pub fn each_is_encoded_once()
     ensures { EachIsEncodedOnce }
+{}
+
+/// A hierarchical plan comes to the same over the values of two texts.
+pub fn values_are_encoded_alike()
+    ensures { ValuesAreEncodedAlike }
 {}

@@ -9,7 +9,7 @@ use Rattle.plan_model.proofs.task_networks.Nodes.{child_below}
 use Rattle.renamed_networks.specs.Renamed.{AreSame, IsRenaming, SameLabel, SameTrees}
 use Rattle.renamed_networks.proofs.RenamedTrees.{flip, Same, to_label, back, address_to, address_back, front_to, finished_to}
 
-same-length : {A B : Type 0} (R : A → B → Type 0) (xs : List A) (ys : List B) → AreSame R xs ys → length xs ≡ length ys
+pub same-length : {A B : Type 0} (R : A → B → Type 0) (xs : List A) (ys : List B) → AreSame R xs ys → length xs ≡ length ys
 same-length R [] [] s = refl
 same-length R (x ∷ xs) (y ∷ ys) s = let h = same-length R xs ys s.1 in omega arith
 same-length R [] (y ∷ ys) s = absurd s
@@ -20,7 +20,7 @@ module _ (M N : Net) (W : M.Work → N.Work → Type 0) (G : M.Method → N.Meth
   L = SameLabel M N W G
 
   -- the labels in order
-  labels_to : (t : Tree M) (u : Tree N) → Same M N W G t u → (order : List Address) (ks : List (Label M)) → AreLabels M t order ks → (ls : List (Label N)) × AreLabels N u order ls × AreSame L ks ls
+  pub labels_to : (t : Tree M) (u : Tree N) → Same M N W G t u → (order : List Address) (ks : List (Label M)) → AreLabels M t order ks → (ls : List (Label N)) × AreLabels N u order ls × AreSame L ks ls
   labels_to t u s [] [] a = ([], tt, tt)
   labels_to t u s (p ∷ order) (k ∷ ks) a =
       let (l, e, x) = to_label M N W G t u s p k a.0 in
@@ -32,13 +32,13 @@ module _ (M N : Net) (W : M.Work → N.Work → Type 0) (G : M.Method → N.Meth
   -- states are the same by R, which conditions and steps keep
   module _ (State : Type 1) (R : State → State → Type 1) (AllowsM : State → Label M → Type 0) (nextM : State → Label M → State) (AllowsN : State → Label N → Type 0) (nextN : State → Label N → State)
       (allows : (S S' : State) → R S S' → (k : Label M) (l : Label N) → L k l → AllowsM S k → AllowsN S' l) (next : (S S' : State) → R S S' → (k : Label M) (l : Label N) → L k l → R (nextM S k) (nextN S' l)) where
-    allowed_to : (ks : List (Label M)) (ls : List (Label N)) → AreSame L ks ls → (S S' : State) → R S S' → AreAllowed M State AllowsM nextM S ks → AreAllowed N State AllowsN nextN S' ls
+    pub allowed_to : (ks : List (Label M)) (ls : List (Label N)) → AreSame L ks ls → (S S' : State) → R S S' → AreAllowed M State AllowsM nextM S ks → AreAllowed N State AllowsN nextN S' ls
     allowed_to [] [] s S S' h a = tt
     allowed_to (k ∷ ks) (l ∷ ls) s S S' h a = (allows S S' h k l s.0 a.0, allowed_to ks ls s.1 (nextM S k) (nextN S' l) (next S S' h k l s.0) a.1)
     allowed_to [] (l ∷ ls) s S S' h a = absurd s
     allowed_to (k ∷ ks) [] s S S' h a = absurd s
 
-    last_same : (ks : List (Label M)) (ls : List (Label N)) → AreSame L ks ls → (S S' : State) → R S S' → R (last_state M State AllowsM nextM S ks) (last_state N State AllowsN nextN S' ls)
+    pub last_same : (ks : List (Label M)) (ls : List (Label N)) → AreSame L ks ls → (S S' : State) → R S S' → R (last_state M State AllowsM nextM S ks) (last_state N State AllowsN nextN S' ls)
     last_same [] [] s S S' h = h
     last_same (k ∷ ks) (l ∷ ls) s S S' h = last_same ks ls s.1 (nextM S k) (nextN S' l) (next S S' h k l s.0)
     last_same [] (l ∷ ls) s S S' h = absurd s
@@ -110,7 +110,7 @@ module _ (M N : Net) (W : M.Work → N.Work → Type 0) (G : M.Method → N.Meth
   SameAct (apply h new g) (run i w) = ⊥
 
   module _ (r : IsRenaming M N W G) (t : Tree M) (u : Tree N) (s : Same M N W G t u) (slot : Address → ℕ) where
-    others-same : (g : M.Method) (m : N.Method) → G g m → others M g ≡ others N m
+    pub others-same : (g : M.Method) (m : N.Method) → G g m → others M g ≡ others N m
     others-same g m x = (let a = r.heir g m x in let b : count M g ≡ count N m = same-length W (M.works g) (N.works m) (r.works g m x) in λ i. filter (λ j. not (is_heir (a i) j)) (numbers 0 (b i)))
 
     act_to : (p : Address) (a : Act M) → IsAct M t slot p a → (b : Act N) × IsAct N u slot p b × SameAct a b
@@ -162,10 +162,10 @@ module _ (M N : Net) (W : M.Work → N.Work → Type 0) (G : M.Method → N.Meth
 
 -- as many are pending
 module _ (M N : Net) (W : M.Work → N.Work → Type 0) (G : M.Method → N.Method → Type 0) (r : IsRenaming M N W G) (t : Tree M) (u : Tree N) (s : Same M N W G t u) where
-  pending_back : (taken : List Address) (p : Address) → IsPending N u taken p → IsPending M t taken p
+  pub pending_back : (taken : List Address) (p : Address) → IsPending N u taken p → IsPending M t taken p
   pending_back taken p a = record { address = address_back M N W G r t u s p a.address; begun = a.begun; left = a.left }
 
-  pending_to : (taken : List Address) (p : Address) → IsPending M t taken p → IsPending N u taken p
+  pub pending_to : (taken : List Address) (p : Address) → IsPending M t taken p → IsPending N u taken p
   pending_to taken p a = record { address = address_to M N W G r t u s p a.address; begun = a.begun; left = a.left }
 
   pub width_to : (b : ℕ) (order : List Address) → IsWidth M b t order → IsWidth N b u order

@@ -155,7 +155,7 @@ module _ (M N : Net) (W : M.Work → N.Work → Type 0) (G : M.Method → N.Meth
     same_works (more t ts) none s = absurd s
 
     mutual
-      grown_to : (t : Tree M) (u : Tree N) → Same t u → IsGrown M t → IsGrown N u
+      pub grown_to : (t : Tree M) (u : Tree N) → Same t u → IsGrown M t → IsGrown N u
       grown_to (open_leaf v) (open_leaf w) s g = tt
       grown_to (done v) (done w) s g = (r.simple v w s).0 g
       grown_to (split a ts) (split m us) s g = (
