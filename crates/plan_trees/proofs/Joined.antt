@@ -67,7 +67,8 @@ more_seeds all place s ss j at is = record {
   once = λ k l x r q e f p o same. elim (get_cases all new k r e) [
     | inl (m, y) ↦ (elim (get_cases all new l q f) [
       | inl (n, z) ↦ j.once k l x r q y z p o same
-      | inr (n, z, w) ↦ absurd (let a = parent_early k x r y p in let b : place ≡ x = some_once (sym (seed_at place 0 ss n q w).0 ∙ o) in omega arith)
+      | inr (n, z, w) ↦ absurd (let a = parent_early k x r y p in let b : place ≡ x = some_once (sym (seed_at place 0 ss n q w).0
+          ∙ o) in omega arith)
     ])
     | inr (m, y, z) ↦ (
         let (a, b) = seed_at place 0 ss m r z in
@@ -94,7 +95,8 @@ more_seeds all place s ss j at is = record {
     old x up l f = elim (get_cases all new x up f) [ inl (m, y) ↦ y | inr (m, y, z) ↦ absurd (omega arith) ]
 
     parent_of : (k x : ℕ) (r : Seed) → slice_get all k ≡ Some r → r.parent ≡ Some x → (x < k) × (x < place)
-    parent_of zero x r e p = absurd (let (q, f, n) = j.first in let same : q ≡ r = some_once (sym f ∙ e) in let z = sym n ∙ ap (λ (y : Seed). y.parent) same ∙ p in cc)
+    parent_of zero x r e p = absurd (let (q, f, n) = j.first in let same : q ≡ r = some_once (sym f ∙ e) in let z = sym n
+        ∙ ap (λ (y : Seed). y.parent) same ∙ p in cc)
     parent_of (suc k) x r e p =
         let (y, q, l, m) = j.later k r e in
         let same : y ≡ x = some_once (sym q ∙ p) in
@@ -110,7 +112,12 @@ more_seeds all place s ss j at is = record {
 pub joined_within : (all : List Seed) (place : ℕ) → AreJoinedSeeds all place → AreJoinedSeeds all (length all)
 joined_within all place j = record {
   first = j.first;
-  later = λ k s e. (let (x, p, l, m) = j.later k s e in let n = get_within all (suc k) s e in (x, p, l, (let z : x < length all = omega arith in z)));
+  later = λ k s e. (let (x, p, l, m) = j.later k s e in let n = get_within all (suc k) s e in (
+    x,
+    p,
+    l,
+    (let z : x < length all = omega arith in z),
+  ));
   tasks = j.tasks;
   once = j.once;
   none_left_out = j.none_left_out;
@@ -119,7 +126,8 @@ joined_within all place j = record {
 module _ (c : Compiled) (lines : Lines) (fits : Fits) where
   pub more_joined : (all new : List Seed) (place : ℕ) (s : Seed) → AreJoinedSeeds all place → slice_get all place ≡ Some s
       → new ≡ with_children all place 0 (all_below c lines fits s.source) → AreJoinedSeeds new (place + 1)
-  more_joined all new place s j at e = subst (λ z. AreJoinedSeeds z (place + 1)) (sym e) (more_seeds all place s (take r (all_below c lines fits s.source)) j at (kind s.source))
+  more_joined all new place s j at e = subst
+      (λ z. AreJoinedSeeds z (place + 1)) (sym e) (more_seeds all place s (take r (all_below c lines fits s.source)) j at (kind s.source))
     where
       r : ℕ
       r = most_steps - length all
@@ -154,7 +162,8 @@ module _ (c : Compiled) (lines : Lines) (fits : Fits) where
       → IsAt labels (growths_of (map (sources.growth c lines fits) all)) k (growth_of (sources.growth c lines fits s))
   growth_at all k s e = get-map growth_of (map (sources.growth c lines fits) all) k _ (get-map (sources.growth c lines fits) all k s e)
 
-  pub growths_joined : (all : List Seed) (place : ℕ) → AreJoinedSeeds all place → AreJoined labels (growths_of (map (sources.growth c lines fits) all))
+  pub growths_joined : (all : List Seed) (place : ℕ) → AreJoinedSeeds all place
+      → AreJoined labels (growths_of (map (sources.growth c lines fits) all))
   growths_joined all place j = record {
     some = (let (s, e, n) = j.first in (growth_of (sources.growth c lines fits s), growth_at all 0 s e));
     first = λ g e. (
@@ -178,7 +187,8 @@ module _ (c : Compiled) (lines : Lines) (fits : Fits) where
         (ap (λ (z : Growth labels). z.child) same ∙ n ∙ ap (λ (z : Growth labels). z.child) (sym also)));
     none_left_out = λ k x i g e p n. (
         let (r, d, same) = seed_of all k g e in
-        let (l, q, f, a, b) = j.none_left_out k x i r d (ap (λ (z : Growth labels). z.parent) same ∙ p) (ap (λ (z : Growth labels). z.child) same ∙ n) in
+        let (l, q, f, a, b) = j.none_left_out k x i r d (ap (λ (z : Growth labels). z.parent) same
+        ∙ p) (ap (λ (z : Growth labels). z.child) same ∙ n) in
         (l, growth_of (sources.growth c lines fits q), growth_at all l q f, a, b));
   }
 

@@ -38,7 +38,8 @@ pub all_put : (old : List Seed) (parent child : ℕ) (ss : List Source) → leng
     → with_children old parent child ss ≡ old ++ seeds parent child ss
 all_put old parent child ss l = ap (λ z. old ++ seeds parent child z) (take_all (most_steps - length old) ss (omega arith))
 
-pub nothing_put : (old : List Seed) (parent child : ℕ) (ss : List Source) → most_steps ≤ length old → with_children old parent child ss ≡ old
+pub nothing_put : (old : List Seed) (parent child : ℕ) (ss : List Source) → most_steps ≤ length old
+    → with_children old parent child ss ≡ old
 nothing_put old parent child ss l =
     ap (λ k. old ++ seeds parent child (take k ss)) (let x : most_steps - length old ≡ 0 = omega arith in x) ∙ append-nil old
 
@@ -51,7 +52,8 @@ put_behind old start parent ss ts l few = elim (cases_lt most_steps (length old 
       let r = most_steps - length old in
       let mid = with_children old parent child ss in
       let all : mid ≡ old ++ seeds parent child ss = all_put old parent child ss m in
-      let long : length mid ≡ length old + length ss = ap length all ∙ length-append old (seeds parent child ss) ∙ ap (λ k. length old + k) (length-seeds parent child ss) in
+      let long : length mid ≡ length old + length ss = ap length all ∙ length-append old (seeds parent child ss)
+      ∙ ap (λ k. length old + k) (length-seeds parent child ss) in
       let n : length mid - start ≡ child + length ss = omega arith in
       let k = most_steps - (length old + length ss) in
       let rest : r ≡ length ss + k = omega arith in
@@ -72,7 +74,8 @@ put_behind old start parent ss ts l few = elim (cases_lt most_steps (length old 
     child = length old - start
 
 -- one more line behind the first ones
-pub one_more_line : (old now new : List Seed) (start parent primitives : ℕ) (places : List ℕ) (i d : ℕ) → start ≤ length old → length old ≤ most_steps
+pub one_more_line : (old now new : List Seed) (start parent primitives : ℕ) (places : List ℕ) (i d : ℕ) → start ≤ length old
+    → length old ≤ most_steps
     → i < length places
     → now ≡ with_children old parent (length old - start) (map (source_at primitives) (take i places))
     → new ≡ with_children now parent (length now - start) (source_at primitives (get_or places i d) ∷ [])
@@ -85,7 +88,8 @@ one_more_line old now new start parent primitives places i d l few m e f =
 
 pub no_children : (old : List Seed) (parent child : ℕ) → with_children old parent child [] ≡ old
 no_children old parent child =
-    ap (λ z. old ++ seeds parent child z) (take_all (most_steps - length old) [] (let x : 0 ≤ most_steps - length old = omega arith in x)) ∙ append-nil old
+    ap (λ z. old ++ seeds parent child z) (take_all (most_steps - length old) []
+    (let x : 0 ≤ most_steps - length old = omega arith in x)) ∙ append-nil old
 
 -- children of a parent that has none yet, in two parts
 pub two_parts : (old now new : List Seed) (start parent : ℕ) (ss ts : List Source) → start ≡ length old → length old ≤ most_steps

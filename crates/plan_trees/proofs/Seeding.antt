@@ -106,7 +106,8 @@ module _ (c : Compiled) (lines : Lines) (fits : Fits) where
   pub begun : AreSoFar c lines fits (root_seed ∷ []) 0
   begun plan s p n f tree node t = ([] ∷ [], at_first (network c) tree (StandsAt c lines fits plan node) (Task None) refl)
 
-  pub further : IsSoundlyCompiled c → length lines.steps + length lines.splits ≤ most_lines → (all new : List Seed) (place : ℕ) (seed : Seed)
+  pub further : IsSoundlyCompiled c → length lines.steps + length lines.splits ≤ most_lines
+      → (all new : List Seed) (place : ℕ) (seed : Seed)
       → AreSoFar c lines fits all place → slice_get all place ≡ Some seed
       → new ≡ with_children all place 0 (all_below c lines fits seed.source)
       → AreSoFar c lines fits new (place + 1)
@@ -121,7 +122,8 @@ module _ (c : Compiled) (lines : Lines) (fits : Fits) where
       let as_many = length-seeds place 0 kids in
       let same = e ∙ all_put all place 0 kids (omega arith) in (
         longer,
-        subst (λ z. IsSoFar (network c) tree (StandsAt c lines fits plan node) new longer z 0) (let x : suc place ≡ place + 1 = omega arith in x)
+        subst (λ z. IsSoFar (network c) tree (StandsAt c lines fits plan node) new longer z 0)
+            (let x : suc place ≡ place + 1 = omega arith in x)
             (subst (λ z. IsSoFar (network c) tree (StandsAt c lines fits plan node) z longer (suc place) 0) (sym same) m),
       )
 

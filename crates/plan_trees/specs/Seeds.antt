@@ -42,7 +42,8 @@ module _ (c : Compiled) (lines : Lines) (fits : Fits) (plan : HPlan) (node : ℕ
   StandsAt (Check task) p = (q : Address) × IsTaskAt task q × (p ≡ 0 ∷ q) × (is_checked c (fit_of fits task) ≡ true)
 
 -- these are the addresses of the seeds, and all of the tree, each once
-pub record AreSeeds (c : Compiled) (lines : Lines) (fits : Fits) (plan : HPlan) (tree : Tree (network c)) (node : ℕ → Address) (seeds : List Seed)
+pub record AreSeeds (c : Compiled) (lines : Lines) (fits : Fits) (plan : HPlan) (tree : Tree (network c)) (node : ℕ
+    → Address) (seeds : List Seed)
     (order : List Address) : Type 0 where
   pub many : length order ≡ length seeds
   pub under : (k : ℕ) (s : Seed) (p : Address) → slice_get seeds k ≡ Some s → slice_get order k ≡ Some p

@@ -16,7 +16,8 @@ returns-clause-put c = on_ok_weaker c.put_lines.result (λ e.
     let same = c.len-start.ensures.length in
     let rest = lines_below lines c.args.task in
     let check : List Source = Check c.args.task ∷ [] in
-    let items : map (source_at c.len.result) c.listed.result.now ≡ rest = (λ i. map (source_at (c.len.ensures.length i)) (c.listed.ensures i)) in
+    let items : map (source_at c.len.result) c.listed.result.now ≡ rest =
+    (λ i. map (source_at (c.len.ensures.length i)) (c.listed.ensures i)) in
     let made = e ∙ ap (with_children c.if-is_checked.seeds parent (length c.if-is_checked.seeds - start)) items in
     elim c.if-is_checked.branch [
       | then-is_checked+in_ok-put w ↦ (

@@ -24,7 +24,8 @@ pub loop-place-preserved : goal.loop-place-preserved
 loop-place-preserved c = record {
   few = c.put_below.ensures.few;
   joined = more_joined c.args.c.now c.args.lines.now c.args.fits.now c.loop-place.seeds c.put_below.new.seeds c.loop-place.place
-      c.in-Some.seed.now c.loop-place.invariant.joined (sym c.get.ensures.item ∙ ap option_copied c.in-Some.is) c.in_ok-put_below.ensures.put;
+      c.in-Some.seed.now c.loop-place.invariant.joined (sym c.get.ensures.item
+      ∙ ap option_copied c.in-Some.is) c.in_ok-put_below.ensures.put;
   so_far = further c.args.c.now c.args.lines.now c.args.fits.now c.requires.soundly c.requires.lines c.loop-place.seeds c.put_below.new.seeds
       c.loop-place.place c.in-Some.seed.now c.loop-place.invariant.so_far (sym c.get.ensures.item ∙ ap option_copied c.in-Some.is)
       c.in_ok-put_below.ensures.put;
