@@ -1,7 +1,7 @@
 -- Lists of seeds to which children are put.
 use Rattle.std.proofs.Common.{ℕ, zero, suc, ◌≡◌, ◌+◌, ◌-◌, ◌<◌, ◌≤◌, inl, inr, ◌∙◌, List, [], ◌∷◌, ◌++◌, length, map, take, get_or, slice_get, Some, refl, ap, sym, append_assoc, append-nil, length-append, take_all, arith}
 use Rattle.std.proofs.lemmas.Bool.{cases_lt}
-use Rattle.std.proofs.lemmas.List.{length-map, length-take-le, map_more, take-append-le}
+use Rattle.std.proofs.lemmas.List.{length-take-le, map_more, take-append-le}
 use Rattle.std.proofs.Math.Seq.{take-append-add}
 use Rattle.htn_base.specs.Limits.{most_steps}
 use Rattle.plan_trees.specs.declared.seed.Source.{Source}

@@ -1,8 +1,8 @@
-use Rattle.std.proofs.Common.{◌-◌, ◌≡◌, ◌++◌, ◌∙◌, Bool, true, false, cond, List, [], ◌∷◌, length, map, ap, sym, subst}
+use Rattle.std.proofs.Common.{◌-◌, ◌≡◌, ◌++◌, ◌∙◌, Bool, cond, List, [], ◌∷◌, length, map, ap, sym}
 use Rattle.std.proofs.lemmas.Result.{on_ok_weaker}
 use Rattle.plan_trees.specs.declared.seed.Source.{Source}
 use Rattle.plan_trees.specs.declared.seed.Source.TheVariants.{Check}
-use Rattle.plan_trees.specs.Sources.{source_at, listed, lines_below, with_children}
+use Rattle.plan_trees.specs.Sources.{source_at, lines_below, with_children}
 use Rattle.plan_trees.proofs.SeedLists.{no_children, two_parts}
 use Rattle.plan_trees.proofs.seeds.put_task.Goals as goal
 use Rattle.plan_trees.proofs.seeds.put_task.Goals.{then-is_checked+in_ok-put, else-is_checked}
