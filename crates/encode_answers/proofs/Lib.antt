@@ -1,0 +1,3 @@
+pub mod SomehowLines
+pub mod SomehowFirst
+pub mod SomehowStanding
