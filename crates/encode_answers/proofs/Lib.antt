@@ -1,3 +1,4 @@
 pub mod SomehowLines
 pub mod SomehowFirst
 pub mod SomehowStanding
+pub mod SomehowPlaced
