@@ -2,3 +2,4 @@ pub mod SomehowLines
 pub mod SomehowFirst
 pub mod SomehowStanding
 pub mod SomehowPlaced
+pub mod Somehow

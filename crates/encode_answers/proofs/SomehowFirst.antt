@@ -58,10 +58,14 @@ module _ (xs ys : List ℕ) where
     })
     | inr n ↦ inr (λ (a : Precedes xs ys). (
         let w = a.within in
-        n (a.place, to_numbers 0 (length xs) a.place (omega arith) (omega arith), (
-          λ i k. a.same i (let l = (numbers_to 0 a.place i k).1 in omega arith),
-          a.smaller,
-        ))))
+        n (
+          a.place,
+          to_numbers 0 (length xs) a.place (omega arith) (omega arith),
+          (
+            λ i k. a.same i (let l = (numbers_to 0 a.place i k).1 in omega arith),
+            a.smaller,
+          ),
+        )))
   ]
 
 module _ (P : List ℕ → Type 0) where

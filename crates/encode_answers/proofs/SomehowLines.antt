@@ -1,5 +1,5 @@
 -- It is told whether some ground method fits a line of a plan: so some fits each line, or there is a first line that none fits.
-use Rattle.std.proofs.Common.{ℕ, ◌≡◌, ◌⊎◌, inl, inr, List, [], ◌∷◌, ◌++◌, slice_get, Option, Some, None, refl, ap, sym, subst, Contains}
+use Rattle.std.proofs.Common.{ℕ, ◌≡◌, ◌⊎◌, inl, inr, List, [], ◌∷◌, ◌++◌, Option, Some, None, refl, ap, subst, Contains}
 use Rattle.plan_model.specs.declared.schemas.MethodPlan.{MethodPlan}
 use Rattle.plan_model.specs.declared.steps.GroundAction.{GroundAction}
 use Rattle.plan_model.specs.declared.values.Compiled.{Compiled}
@@ -53,7 +53,7 @@ has_told d xs x = elim (some_or_not (λ z. z ≡ x) (λ z. d z x) xs) [
 ]
 
 -- each has a property, or one is the first that has it not
-pub record IsFirstWithout {A : Type 0} (P : A → Type 0) (xs : List A) : Type 0 where
+record IsFirstWithout {A : Type 0} (P : A → Type 0) (xs : List A) : Type 0 where
   pub before : List A
   pub item : A
   pub rest : List A
@@ -61,7 +61,7 @@ pub record IsFirstWithout {A : Type 0} (P : A → Type 0) (xs : List A) : Type 0
   pub each : EachIs P before
   pub without : P item → ⊥
 
-pub each_or_first : {A : Type 0} (P : A → Type 0) → ((x : A) → Or_not (P x)) → (xs : List A) → EachIs P xs ⊎ IsFirstWithout P xs
+each_or_first : {A : Type 0} (P : A → Type 0) → ((x : A) → Or_not (P x)) → (xs : List A) → EachIs P xs ⊎ IsFirstWithout P xs
 each_or_first P d [] = inl tt
 each_or_first P d (x ∷ xs) = go (d x) (each_or_first P d xs)
   where
@@ -84,7 +84,8 @@ module _ (c : Compiled) where
   -- a question on ground methods
   some_method : (F : GroundMethod → Type 0) → ((g : GroundMethod) → F g → IsGroundMethod c g) → ((g : GroundMethod) → Or_not (F g))
       → Or_not ((g : GroundMethod) × F g)
-  some_method F grounded d = elim (place_told (λ k (p : MethodPlan). (os : List ℕ) × AreTyped (InTypeOf c) p.schema.params os × F (ground_by k os))
+  some_method F grounded d = elim (place_told
+      (λ k (p : MethodPlan). (os : List ℕ) × AreTyped (InTypeOf c) p.schema.params os × F (ground_by k os))
       (λ k (p : MethodPlan). objects_told c p.schema.params (λ os. F (ground_by k os)) (λ os. d (ground_by k os))) c.methods) [
         | inl h ↦ inl (ground_by h.0 h.3.0, h.3.2)
         | inr n ↦ inr (λ f. (let x = grounded f.0 f.1 in n (f.0.number, x.plan, x.is, (f.0.values, x.typed, f.1))))
@@ -134,7 +135,8 @@ module _ (c : Compiled) where
     pub fitting_or_first : EachFits c P ⊎ ((id : Option ℕ) × IsUnmatched c plan id)
     fitting_or_first = go some_root (each_or_first (IsFitted c plan) some_fits plan.nodes)
       where
-        go : Or_not ((g : GroundMethod) × FitsRoot c P g) → EachIs (IsFitted c plan) plan.nodes ⊎ IsFirstWithout (IsFitted c plan) plan.nodes
+        go : Or_not ((g : GroundMethod) × FitsRoot c P g)
+            → EachIs (IsFitted c plan) plan.nodes ⊎ IsFirstWithout (IsFitted c plan) plan.nodes
             → EachFits c P ⊎ ((id : Option ℕ) × IsUnmatched c plan id)
         go (inr n) d = inr (None, λ g f. n (g, f))
         go (inl r) (inl e) = inl (record { root = r; splits = line })

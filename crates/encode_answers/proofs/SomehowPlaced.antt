@@ -1,6 +1,6 @@
 -- A plan has a latest schedule, or a sentence says why it has none: what is asked of its lines, its actions, the goal and its gaps is told.
 use Rattle.std.proofs.Common.{ℕ, ◌≡◌, ◌<◌, ◌⊎◌, inl, inr, List, [], ◌∷◌, ◌++◌, length, map, slice_get, Option, Some, None}
-use Rattle.std.proofs.Common.{refl, ap, sym, subst, ◌∙◌, Contains, arith}
+use Rattle.std.proofs.Common.{refl, ap, sym, subst, ◌∙◌, arith}
 use Rattle.std.proofs.lemmas.List.{length-map, length-append}
 use Rattle.plan_model.specs.declared.options.Checks.{Checks}
 use Rattle.plan_model.specs.declared.values.Hddl.{Hddl}
@@ -32,10 +32,8 @@ use Rattle.plan_encoder.specs.Laws.{IsOf, IsTreeOfPlan, actions, HasTree, MaySta
 use Rattle.plan_encoder.proofs.Standing.{check_is_first, asks, choice}
 use Rattle.plan_encoder.proofs.PlanTrees.{trees_exactly_where_fitting}
 use Rattle.plan_encoder.proofs.Solutions.{order_decided, solutions_exactly_where_gaps}
-use Rattle.placements.specs.Matching.{IsUnmatched}
 use Rattle.placements.specs.Placement.{AreExecutable, IsPlaced, IsNotExecutable, HasNoPlace}
 use Rattle.placements.specs.Laws.{IsRefused}
-use Rattle.placements.proofs.PlacedPlans.{chooser_address}
 use Rattle.decode_answers.proofs.SomehowStates.{goal_told, allows_told}
 use Rattle.encode_answers.proofs.SomehowLines.{fitting_or_first}
 use Rattle.encode_answers.proofs.SomehowStanding.{may_told, first_values, first_nowhere}
@@ -228,6 +226,6 @@ module _ (c : Compiled) where
           let (tree, node, t) = (trees_exactly_where_fitting c h mode of plan sound).1 fits in
           let p = steps N (words c) (top_work c) tree (lines_of plan) node t in
           let (labels, are) = labels_of N State (Allows c) (λ s l. s) tree [] (λ q l n e s. refl) (actions c plan node)
-              (λ q d. (let y = p.leaves q d in (ran y.0, y.1))) in
+          (λ q d. (let y = p.leaves q d in (ran y.0, y.1))) in
           with_tree tree node labels (record { of_plan = t; are_labels = are }))
     ]

@@ -1,6 +1,6 @@
 -- It is told in which gaps a node may stand with some values, and where it may, there are first ones.
-use Rattle.std.proofs.Common.{ℕ, ◌≡◌, ◌<◌, ◌⊎◌, inl, inr, true, false, IsTrue, List, [], ◌∷◌, map, take, length, slice_get}
-use Rattle.std.proofs.Common.{Option, Some, None, refl, ap, sym, subst, ◌∙◌, Contains, arith}
+use Rattle.std.proofs.Common.{ℕ, ◌≡◌, inl, inr, IsTrue, List, [], ◌∷◌, map, take, length, slice_get}
+use Rattle.std.proofs.Common.{Option, Some, None, refl, sym, subst, ◌∙◌, Contains, arith}
 use Rattle.plan_model.specs.declared.schemas.MethodPlan.{MethodPlan}
 use Rattle.plan_model.specs.declared.terms.Param.{Param}
 use Rattle.plan_model.specs.declared.values.Compiled.{Compiled}
@@ -8,12 +8,12 @@ use Rattle.plan_model.specs.task_networks.Net.{Net}
 use Rattle.plan_model.specs.task_networks.Spelling.{numbers}
 use Rattle.plan_model.specs.task_networks.Tree.{Tree, Label, waits, ran, used, Address, label_at}
 use Rattle.plan_model.specs.plan_meaning.Truth.{AreTyped}
-use Rattle.plan_model.specs.plan_meaning.Network.{Work, action, check, task, GroundMethod, InTypeOf, network}
+use Rattle.plan_model.specs.plan_meaning.Network.{action, check, task, GroundMethod, InTypeOf, network}
 use Rattle.plan_model.specs.plan_meaning.Solution.{Allows}
 use Rattle.plan_model.proofs.task_networks.Lists.{not-in_empty, head_or_tail}
 use Rattle.plan_model.proofs.task_networks.Numbers.{to_numbers}
 use Rattle.slot_machine.proofs.bound_laws.Decided.{Or_not, both}
-use Rattle.plan_encoder.specs.ChosenValues.{with_values, rechecked, CanHave, is_checked, ParentCanHave, state_in, LabelMayStand, MayStand}
+use Rattle.plan_encoder.specs.ChosenValues.{with_values, rechecked, CanHave, is_checked, state_in, LabelMayStand, MayStand}
 use Rattle.plan_encoder.specs.Laws.{MayStandSomehow}
 use Rattle.plan_proof.proofs.machine.Running.{typed_long}
 use Rattle.value_choices.specs.Choices.{IsFirst}
@@ -60,7 +60,8 @@ module _ (c : Compiled) where
 
   -- a question on the values that a method can have
   values_told : (g : GroundMethod) (Q : List ℕ → Type 0) → ((v : List ℕ) → Or_not (Q v)) → FirstOrNone (λ v. CanHave c g v × Q v)
-  values_told g Q d = first_or_none (λ v. CanHave c g v × Q v) (λ v. both (can_have_told g v) (d v)) (all_values g) (λ v h. among_all g v h.0)
+  values_told g Q d = first_or_none (λ v. CanHave c g v × Q v) (λ v. both (can_have_told g v) (d v)) (all_values g)
+      (λ v h. among_all g v h.0)
 
   module _ (tree : Tree N) (labels : List (Label N))
       (no_check : (m : ℕ) (v : List ℕ) → label_at N tree [] ≡ Some (ran (check m v)) → ⊥) where

@@ -1,6 +1,6 @@
 -- That a hierarchical plan comes to one thing alone, whichever value of two texts is taken.
 -- Source: this project's.
-use Rattle.std.specs.Prelude.{ℕ, ◌≡◌, ◌≤◌, List, Option, IfSome}
+use Rattle.std.specs.Prelude.{ℕ, ◌≡◌, ◌<◌, ◌≤◌, ◌-◌, ◌^◌, List, Option, IfSome}
 use Rattle.htn_base.specs.Limits.{most_slots}
 use Rattle.plan_model.specs.declared.options.Checks.{Checks}
 use Rattle.plan_model.specs.declared.steps.GroundAction.{GroundAction}
@@ -22,10 +22,11 @@ EachIsEncodedOnce = (h : Hddl) (mode : Checks) (c : Compiled) → IsOf h mode c 
     → (given : Option ℕ) (most : ℕ) (one other : StepText) → IsStepText c plan given most one → IsStepText c plan given most other
     → one ≡ other
 
--- and to one, where a given number of slots is one that may be asked for
+-- and to one, where a given number of slots is one that may be asked for, and the limit is less than the greatest length that is counted
 abbrev pub EachIsEncodedSomehow : Type 0
-EachIsEncodedSomehow = (h : Hddl) (mode : Checks) (c : Compiled) → IsOf h mode c → (plan : HPlan) → IsSoundHPlan plan → IsPrintableHPlan plan
-    → (given : Option ℕ) (most : ℕ) → IfSome given (λ n. n ≤ most_slots) → (text : StepText) × IsStepText c plan given most text
+EachIsEncodedSomehow = (h : Hddl) (mode : Checks) (c : Compiled) → IsOf h mode c → (plan : HPlan) → IsSoundHPlan plan
+    → IsPrintableHPlan plan → (given : Option ℕ) (most : ℕ) → most < 2 ^ 64 - 1 → IfSome given (λ n. n ≤ most_slots)
+    → (text : StepText) × IsStepText c plan given most text
 
 -- what a plan comes to is the same of two compiled problems
 pub record AreEncodedAlike (c k : Compiled) (plan : HPlan) : Type 0 where

@@ -4,3 +4,7 @@
 //! Stands on the definitions of `placements` and `step_texts`, and on `decode_answers` for the values of two texts. The contract used
 //! above: the laws.
 #![tactic(auto)]
+
+mod laws;
+
+pub use laws::each_is_encoded_somehow;
