@@ -36,7 +36,7 @@ module _ (c : Compiled) where
   abbrev N : Net
   N = network c
 
-  work_of_ran : (t : Tree N) (w : Work) → label N t ≡ ran w → work_of N t ≡ w
+  pub work_of_ran : (t : Tree N) (w : Work) → label N t ≡ ran w → work_of N t ≡ w
   work_of_ran (open_leaf v) w e = absurd cc
   work_of_ran (done v) w e = cc
   work_of_ran (split m ts) w e = absurd cc

@@ -29,11 +29,14 @@ use Rattle.placements.specs.Placement.{state_after}
 use Rattle.plan_placer.specs.Executed.{IsLabelOf, AreLabelsOf, HasStates, IsExecuted, IsStoppedAt, HasReached, HasMissed}
 
 module _ (N : Net) (S : Type 1) (Allowed : S → Label N → Type 0) (step : S → Label N → S) where
-  last_push : (s : S) (ls : List (Label N)) (l : Label N) → last_state N S Allowed step s (ls ++ l ∷ []) ≡ step (last_state N S Allowed step s ls) l
+  abbrev state_behind : S → List (Label N) → S
+  state_behind = last_state N S Allowed step
+
+  last_push : (s : S) (ls : List (Label N)) (l : Label N) → state_behind s (ls ++ l ∷ []) ≡ step (state_behind s ls) l
   last_push s [] l = refl
   last_push s (k ∷ ls) l = last_push (step s k) ls l
 
-  allowed_push : (s : S) (ls : List (Label N)) (l : Label N) → AreAllowed N S Allowed step s ls → Allowed (last_state N S Allowed step s ls) l
+  allowed_push : (s : S) (ls : List (Label N)) (l : Label N) → AreAllowed N S Allowed step s ls → Allowed (state_behind s ls) l
       → AreAllowed N S Allowed step s (ls ++ l ∷ [])
   allowed_push s [] l a x = (x, tt)
   allowed_push s (k ∷ ls) l a x = (a.0, allowed_push (step s k) ls l a.1 x)
@@ -42,9 +45,6 @@ module _ (N : Net) (S : Type 1) (Allowed : S → Label N → Type 0) (step : S �
 pub there : {A : Type 0} (before rest : List A) (a : A) → slice_get (before ++ a ∷ rest) (length before) ≡ Some a
 there [] rest a = refl
 there (b ∷ before) rest a = there before rest a
-
-same_back : (S T : State) → AreSame S T → AreSame T S
-same_back S T s g = let x = s g in (x.1, x.0)
 
 same_along : (R S T : State) → AreSame R S → AreSame S T → AreSame R T
 same_along R S T a b g = let x = a g in let y = b g in (λ r. y.0 (x.0 r), λ t. x.1 (y.1 t))
@@ -71,8 +71,9 @@ module _ (c : Compiled) where
   -- the last state
   pub states_last : (labels : List L) (h : History) → HasStates c labels h → AreSame (state_in h (last h)) (state_after c labels)
   states_last labels h s =
+      let n : ℕ = length labels in
       subst (λ k. AreSame (state_in h k) (state_after c labels)) (sym s.last)
-      (subst (λ (z : List L). AreSame (state_in h (length labels)) (state_after c z)) (take-length labels) (s.states (length labels) (omega arith)))
+      (subst (λ (z : List L). AreSame (state_in h n) (state_after c z)) (take-length labels) (s.states n (omega arith)))
 
   module _ (world : World) (is : IsWorldOf c world) where
     same_types : IsInType world ≡ InTypeOf c
@@ -82,8 +83,10 @@ module _ (c : Compiled) where
     pub true_last : (labels : List L) (h : History) → HasStates c labels h → (f : Formula) (values : List ℕ)
         → IsTrueInGap world h f values (last h) ↔ IsTrueIn (InTypeOf c) (state_after c labels) f values
     true_last labels h s f values =
-        subst (λ (z : ℕ → ℕ → Type 0). IsTrueIn z (state_in h (last h)) f values ↔ IsTrueIn (InTypeOf c) (state_after c labels) f values) (sym same_types)
-        (same_truth (InTypeOf c) (state_in h (last h)) (state_after c labels) (states_last labels h s) f values)
+        let now : State = state_after c labels in
+        let there : State = state_in h (last h) in
+        subst (λ (z : ℕ → ℕ → Type 0). IsTrueIn z there f values ↔ IsTrueIn (InTypeOf c) now f values) (sym same_types)
+        (same_truth (InTypeOf c) there now (states_last labels h s) f values)
 
     -- an action is executed in the last gap
     module _ (labels : List L) (old new : History) (h : HasStates c labels old) (s : Said) (schema : ActionSchema)
@@ -91,14 +94,19 @@ module _ (c : Compiled) where
       abbrev it : L
       it = ran (action s.number s.objects)
 
-      next_is : next c (state_after c labels) it ≡ after (InTypeOf c) (state_after c labels) schema.eff s.objects
-      next_is = ap (λ (o : Option ActionSchema). after_action c (state_after c labels) o s.objects) is_schema
+      abbrev now : State
+      now = state_after c labels
 
-      pub allowed_is : Allows c (state_after c labels) it ≡ IsTrueIn (InTypeOf c) (state_after c labels) schema.pre s.objects
-      allowed_is = ap (λ (o : Option ActionSchema). AllowsAction c (state_after c labels) o s.objects) is_schema
+      abbrev ahead : State
+      ahead = after (InTypeOf c) now schema.eff s.objects
 
-      last_more : state_after c (labels ++ it ∷ []) ≡ after (InTypeOf c) (state_after c labels) schema.eff s.objects
-      last_more = last_push (network c) State (Allows c) (next c) (initial c) labels it ∙ next_is
+      pub allowed_is : Allows c now it ≡ IsTrueIn (InTypeOf c) now schema.pre s.objects
+      allowed_is = ap (λ (o : Option ActionSchema). AllowsAction c now o s.objects) is_schema
+
+      ahead_is : state_after c (labels ++ it ∷ []) ≡ ahead
+      ahead_is =
+          last_push (network c) State (Allows c) (next c) (initial c) labels it
+          ∙ ap (λ (o : Option ActionSchema). after_action c now o s.objects) is_schema
 
       pub states_more : last new ≡ last old + 1
           → ((j : ℕ) → j ≤ last old → AreSame (state_in new j) (state_in old j))
@@ -115,20 +123,25 @@ module _ (c : Compiled) where
           many : length (labels ++ it ∷ []) ≡ last old + 1
           many = let a = h.last in let b = length-append labels (it ∷ []) in omega arith
 
-          along : AreSame (after_last world old schema.eff s.objects) (after (InTypeOf c) (state_after c labels) schema.eff s.objects)
-          along = subst (λ (z : ℕ → ℕ → Type 0). AreSame (after z (state_in old (last old)) schema.eff s.objects) (after (InTypeOf c) (state_after c labels) schema.eff s.objects))
-              (sym same_types)
-              (same_after (InTypeOf c) (state_in old (last old)) (state_after c labels) (states_last labels old h) schema.eff s.objects)
+          there : State
+          there = after_last world old schema.eff s.objects
+
+          along : AreSame there ahead
+          along =
+              let here : State = state_in old (last old) in
+              subst (λ (z : ℕ → ℕ → Type 0). AreSame (after z here schema.eff s.objects) ahead) (sym same_types)
+              (same_after (InTypeOf c) here now (states_last labels old h) schema.eff s.objects)
 
           at_last : AreSame (state_in new (last new)) (state_after c (labels ++ it ∷ []))
-          at_last = subst (λ (z : State). AreSame (state_in new (last new)) z) (sym last_more)
-              (same_along (state_in new (last new)) (after_last world old schema.eff s.objects) (after (InTypeOf c) (state_after c labels) schema.eff s.objects) then along)
+          at_last = subst (λ (z : State). AreSame (state_in new (last new)) z) (sym ahead_is)
+              (same_along (state_in new (last new)) there ahead then along)
 
           each : (j : ℕ) → j ≤ length (labels ++ it ∷ []) → (last old < j) ⊎ (j ≤ last old)
               → AreSame (state_in new j) (state_after c (take j (labels ++ it ∷ [])))
           each j b (inl l) =
-              let e : j ≡ last new = (let m = many in omega arith) in
-              let all : take j (labels ++ it ∷ []) ≡ labels ++ it ∷ [] = take_all j (labels ++ it ∷ []) (let m = many in omega arith) in
+              let m = many in
+              let e : j ≡ last new = omega arith in
+              let all : take j (labels ++ it ∷ []) ≡ labels ++ it ∷ [] = take_all j (labels ++ it ∷ []) (omega arith) in
               subst (λ (z : List L). AreSame (state_in new j) (state_after c z)) (sym all)
               (subst (λ k. AreSame (state_in new k) (state_after c (labels ++ it ∷ []))) (sym e) at_last)
           each j b (inr l) =
@@ -138,7 +151,8 @@ module _ (c : Compiled) where
 
 -- what a step comes to, whose numbers and schema are these, and whose condition was looked at in the last gap
 module _ (c : Compiled) (world : World) (is : IsWorldOf c world) (step : Option Said) (s : Said) (is_step : step ≡ Some s)
-    (objects : List ℕ) (are : objects ≡ s.objects) (schema : ActionSchema) (is_schema : slice_get c.hddl.actions s.number ≡ Some schema)
+    (objects : List ℕ) (are : objects ≡ s.objects)
+    (schema : ActionSchema) (is_schema : slice_get c.hddl.actions s.number ≡ Some schema)
     (old mid : History) (kept : mid.flips ≡ old.flips) (gap : ℕ) (is_gap : gap ≡ last old) (truth : Bool)
     (looked : IsTrue truth ↔ IsTrueInGap world old schema.pre objects gap)
     (labels : List (Label (network c))) (label : Label (network c)) (is_label : IsLabelOf c step label) (h : HasStates c labels old) where
@@ -165,11 +179,11 @@ module _ (c : Compiled) (world : World) (is : IsWorldOf c world) (step : Option 
       (subst (λ (f : Flips). IsTrueIn (IsInType world) (states f f.last) schema.pre s.objects) (sym kept) (looked_there.0 t))))
 
   pub stops : truth ≡ false → (new : History) → IsExecuted c labels label truth new
-  stops t new =
-      subst (λ (b : Bool). IsExecuted c labels label b new) (sym t)
-      (λ a. (
-      let x : Allows c (state_after c labels) (ran (action s.number s.objects)) = subst (λ (z : Label (network c)). Allows c (state_after c labels) z) label_is a in
-      let y : IsTrue truth = looked_there.1 ((true_last c world is labels old h schema.pre s.objects).1 (subst (λ (z : Type 0). z) (allowed_is c world is labels old old h s schema is_schema) x)) in
+  stops t new = subst (λ (b : Bool). IsExecuted c labels label b new) (sym t) (λ a. (
+      let now : State = state_after c labels in
+      let x : Allows c now (ran (action s.number s.objects)) = subst (Allows c now) label_is a in
+      let f = subst (λ (z : Type 0). z) (allowed_is c world is labels old old h s schema is_schema) x in
+      let y : IsTrue truth = looked_there.1 ((true_last c world is labels old h schema.pre s.objects).1 f) in
       cc))
 
 -- the label of the step at a place
@@ -186,7 +200,8 @@ module _ (c : Compiled) where
       → AreLabelsOf c steps labels → place < length steps → IsThere (get_or steps place d) labels place
   label_there [] labels place d a l = absurd (omega arith)
   label_there (s ∷ steps) [] place d a l = absurd a
-  label_there (s ∷ steps) (k ∷ labels) zero d a l = record { label = k; is = a.0; rest = labels; parts = refl; short = refl; more = refl }
+  label_there (s ∷ steps) (k ∷ labels) zero d a l =
+      record { label = k; is = a.0; rest = labels; parts = refl; short = refl; more = refl }
   label_there (s ∷ steps) (k ∷ labels) (suc place) d a l =
       let r = label_there steps labels place d a.1 (omega arith) in
       record {
@@ -198,34 +213,35 @@ module _ (c : Compiled) where
         more = ap (λ (z : List (Label (network c))). k ∷ z) r.more;
       }
 
-  pub as_many : (steps : List (Option Said)) (labels : List (Label (network c))) → AreLabelsOf c steps labels → length labels ≡ length steps
-  as_many [] [] a = refl
-  as_many [] (l ∷ labels) a = absurd a
-  as_many (s ∷ steps) [] a = absurd a
-  as_many (s ∷ steps) (l ∷ labels) a = ap suc (as_many steps labels a.1)
-
+  -- what a step at a place comes to
   module _ (steps : List (Option Said)) (labels : List (Label (network c))) (a : AreLabelsOf c steps labels) (place : ℕ)
-      (within : place < length steps) (step : Option Said) (d : Option Said) (is : step ≡ get_or steps place d) (old new : History) (done : Bool)
+      (within : place < length steps) (step d : Option Said) (is : step ≡ get_or steps place d) (old new : History) (done : Bool)
       (h : HasStates c (take place labels) old)
-      (executed : (before : List (Label (network c))) (label : Label (network c)) → IsLabelOf c step label → HasStates c before old → IsExecuted c before label done new) where
+      (executed : (before : List (Label (network c))) (label : Label (network c)) → IsLabelOf c step label → HasStates c before old
+      → IsExecuted c before label done new) where
     there_is : IsThere (get_or steps place d) labels place
     there_is = label_there steps labels place d a within
 
-    outcome : IsExecuted c (take place labels) there_is.label done new
-    outcome = executed (take place labels) there_is.label (subst (λ (z : Option Said). IsLabelOf c z there_is.label) (sym is) there_is.is) h
+    abbrev Outcome : Bool → Type 0
+    Outcome b = IsExecuted c (take place labels) there_is.label b new
+
+    outcome : Outcome done
+    outcome =
+        let its = subst (λ (z : Option Said). IsLabelOf c z there_is.label) (sym is) there_is.is in
+        executed (take place labels) there_is.label its h
 
     pub more_states : done ≡ true → HasStates c (take (suc place) labels) new
-    more_states e = subst (λ (z : List (Label (network c))). HasStates c z new) (sym there_is.more) (subst (λ (b : Bool). IsExecuted c (take place labels) there_is.label b new) e outcome)
+    more_states e = subst (λ (z : List (Label (network c))). HasStates c z new) (sym there_is.more) (subst Outcome e outcome)
 
-    pub stopped_at : done ≡ false → (plan : HPlan) (lines : List HLine) → lines ≡ plan.primitives → length steps ≡ length plan.primitives
-        → (none : HLine) → IsStoppedAt c plan labels (get_or lines place none).id
+    pub stopped_at : done ≡ false → (plan : HPlan) (lines : List HLine) → lines ≡ plan.primitives
+        → length steps ≡ length plan.primitives → (none : HLine) → IsStoppedAt c plan labels (get_or lines place none).id
     stopped_at e plan lines are many none = record {
       before = take place labels;
       label = there_is.label;
       rest = there_is.rest;
       parts = there_is.parts;
       executable = h.executable;
-      fails = subst (λ (b : Bool). IsExecuted c (take place labels) there_is.label b new) e outcome;
+      fails = subst Outcome e outcome;
       line = get_or lines place none;
       line_is = (
           let l : place < length lines = (let b = ap length are in omega arith) in

@@ -1,6 +1,7 @@
 -- Why a plan is not placed, told from why its lines are not fitted, and from why its actions are not executed.
 use Rattle.std.proofs.Common.{ℕ, ◌≡◌, ◌+◌, ◌≤◌, List, length, slice_get, Option, Some, None, option_map, sym, subst, ap, ◌∙◌, arith}
 use Rattle.htn_base.specs.Limits.{most_lines}
+use Rattle.plan_texts.proofs.Together.{together-length}
 use Rattle.plan_model.specs.declared.values.Compiled.{Compiled}
 use Rattle.plan_model.specs.task_networks.Tree.{Tree, Label, Address}
 use Rattle.plan_model.specs.plan_meaning.Network.{network, action}
@@ -18,30 +19,31 @@ use Rattle.plan_placer.specs.Planting.{id_at}
 use Rattle.plan_placer.specs.Executed.{IsStopped}
 use Rattle.plan_placer.specs.Placing.{RefusesPlace}
 use Rattle.plan_placer.proofs.Histories.{there}
-use Rattle.plan_placer.proofs.StepLabels.{same_many}
 
 module _ (c : Compiled) (plan : HPlan) where
   -- as many numbers as lines
   pub many_steps : (lines : Lines) → AreNumbered c plan lines → length lines.steps ≡ length plan.primitives
-  many_steps lines n = same_many (AreSaid c action) plan.primitives lines.steps n.steps_are
+  many_steps lines n = sym (together-length (AreSaid c action) plan.primitives lines.steps n.steps_are)
 
   pub few_lines : (lines : Lines) → AreNumbered c plan lines → length plan.primitives + length plan.nodes ≤ most_lines
       → length lines.steps + length lines.splits ≤ most_lines
   few_lines lines n l =
       let a = many_steps lines n in
-      let b = same_many (IsSplitOf c (task_ids plan)) plan.nodes lines.splits n.splits_are in
+      let b = together-length (IsSplitOf c (task_ids plan)) plan.nodes lines.splits n.splits_are in
       omega arith
 
   pub unmatched : (line id : Option ℕ) → id ≡ id_at plan line → IsUnfitted c plan line → IsUnmatched c plan id
   unmatched None id e u = subst (IsUnmatched c plan) (sym e) u
-  unmatched (Some k) id e (before, node, first, many) = subst (IsUnmatched c plan) (sym (e ∙ ap (option_map node_id) at)) (before, node, first, λ i. node.line.id)
+  unmatched (Some k) id e (before, node, first, many) =
+      subst (IsUnmatched c plan) (sym (e ∙ ap (option_map node_id) at)) (before, node, first, λ i. node.line.id)
     where
       at : slice_get plan.nodes k ≡ Some node
       at = subst (λ j. slice_get plan.nodes j ≡ Some node) many
           (subst (λ (z : List HNode). slice_get z (length before) ≡ Some node) (sym first.parts) (there before first.rest node))
 
   -- the plan has a tree
-  module _ (tree : Tree (network c)) (node : ℕ → Address) (labels : List (Label (network c))) (has : HasTree c plan tree node labels) where
+  module _ (tree : Tree (network c)) (node : ℕ → Address) (labels : List (Label (network c)))
+      (has : HasTree c plan tree node labels) where
     pub refused : (error : PlaceError) → IsStopped c plan labels error → RefusesPlace c plan error
     refused (NoMatch id) s = absurd s
     refused (NotExecutable id) s = record {

@@ -7,7 +7,7 @@ use Rattle.plan_model.specs.task_networks.Net.{Net}
 use Rattle.plan_model.specs.task_networks.Tree.{Tree, Label, waits, ran, used, Address, label_at, IsAddress}
 use Rattle.plan_model.specs.task_networks.Preorder.{preorder}
 use Rattle.plan_model.specs.task_networks.Executable.{AreLabels}
-use Rattle.plan_model.specs.plan_meaning.Network.{GroundMethod, network}
+use Rattle.plan_model.specs.plan_meaning.Network.{check, GroundMethod, network}
 use Rattle.plan_model.specs.plan_meaning.Solution.{top_work}
 use Rattle.hplan_text.specs.declared.values.HPlan.{HPlan}
 use Rattle.tree_core.specs.declared.growth.Scheduled.{Scheduled}
@@ -19,13 +19,14 @@ use Rattle.tree_core.proofs.Siblings.{as_many, one_node_place, place_of_node}
 use Rattle.tree_core.proofs.Labelled.{preorder-labelled}
 use Rattle.tree_core.proofs.TableRows.{tables_tell_trees}
 use Rattle.schedules.specs.latest.Gaps.{IsPlanOf, IsLatest}
+use Rattle.schedules.specs.latest.Choices.{IsChoice}
 use Rattle.schedules.specs.latest.Execution.{IsSameShape}
 use Rattle.schedules.specs.latest.Shown.{place}
 use Rattle.schedules.proofs.latest.Shapes.{same_gap_functions, same_plan}
 use Rattle.schedules.proofs.latest.ShownTheorem.{steps}
 use Rattle.plan_encoder.specs.Calls.{words, lines_of}
 use Rattle.plan_encoder.specs.ChosenValues.{method_with, work_with, CanHave, chosen, is_checked, asking_by, asking, chooser, MayStand}
-use Rattle.plan_encoder.specs.Laws.{IsOf, actions, MayStandSomehow, MayStandWith}
+use Rattle.plan_encoder.specs.Laws.{IsOf, IsTreeOfPlan, actions, MayStandSomehow, MayStandWith}
 use Rattle.plan_encoder.proofs.ChosenTrees.{grown_chosen}
 use Rattle.plan_encoder.proofs.ShownLines.{place_is}
 use Rattle.plan_encoder.proofs.Solutions.{solutions_exactly_where_gaps}
@@ -58,7 +59,8 @@ labels_many N tree (p ∷ ps) (l ∷ ls) a = ap suc (labels_many N tree ps ls a.
 labels_many N tree [] (l ∷ ls) a = absurd a
 labels_many N tree (p ∷ ps) [] a = absurd a
 
-module _ (c : Compiled) (s : IsSoundlyCompiled c) (plan : HPlan) (made : PlanTree) (history : History) (r : IsReached c made history plan) where
+module _ (c : Compiled) (s : IsSoundlyCompiled c) (plan : HPlan) (made : PlanTree) (history : History)
+    (r : IsReached c made history plan) where
   abbrev N : Net
   N = network c
 
@@ -68,14 +70,25 @@ module _ (c : Compiled) (s : IsSoundlyCompiled c) (plan : HPlan) (made : PlanTre
   abbrev acts : List Address
   acts = actions c plan r.node
 
+  abbrev t : IsTreeOfPlan c plan T r.node
+  t = r.has.of_plan
+
   of : IsOf s.problem s.checks c
   of = record { sound = s.sound; ordered = s.ordered; compiled = s.compiled }
 
   a_plan : IsPlanOf N T acts
-  a_plan = steps N (words c) (top_work c) T (lines_of plan) r.node r.has.of_plan
+  a_plan = steps N (words c) (top_work c) T (lines_of plan) r.node t
 
   many : length r.done ≡ length acts
   many = labels_many N T acts r.done r.has.are_labels
+
+  -- the child that asks for the values of a method with a check
+  check_there : (q : Address) (g : GroundMethod) → label_at N T q ≡ Some (used g) → is_checked c g ≡ true
+      → label_at N T (0 ∷ q) ≡ Some (ran (check g.number g.values))
+  check_there = check_below c s.problem s.checks s.sound s.compiled T t.grown t.no_leaves t.root
+
+  a_choice : IsChoice N T (List ℕ) (chosen c T) (MayStand c T r.done) (chooser c T)
+  a_choice = choice c s.problem s.checks s.sound s.compiled T t.grown t.no_leaves t.root r.done
 
   -- what is asked of rows, and of the nodes at their places
   abbrev stands : ℕ → List ℕ → ℕ → Type 0
@@ -87,8 +100,9 @@ module _ (c : Compiled) (s : IsSoundlyCompiled c) (plan : HPlan) (made : PlanTre
   abbrev Some_may : Address → ℕ → Type 0
   Some_may = MayStandSomehow c T r.done
 
-  told : (k : ℕ) (p : Address) (i : ℕ) → slice_get (preorder N T) k ≡ Some p → i ≤ length acts → IsTold c made.tree history T r.done k p i
-  told k p i e l = rows_tell_standing c T made.tree r.done history r.has.of_plan.grown r.has.of_plan.root r.rows k p i e
+  told : (k : ℕ) (p : Address) (i : ℕ) → slice_get (preorder N T) k ≡ Some p → i ≤ length acts
+      → IsTold c made.tree history T r.done k p i
+  told k p i e l = rows_tell_standing c T made.tree r.done history t.grown t.root r.rows k p i e
       (r.reached.has.states i (let m = many in omega arith))
 
   to_some : Gives N T acts May Some_may
@@ -98,7 +112,7 @@ module _ (c : Compiled) (s : IsSoundlyCompiled c) (plan : HPlan) (made : PlanTre
   from_some p i a l m = let (k, e) = place_of_node N T p a in (k, e, (told k p i e l).somehow.1 m)
 
   setting : gap_pass.IsSetting c made.tree made.actions T acts
-  setting = record { rows_are = r.rows; grown = r.has.of_plan.grown; places = r.places; is_plan = a_plan }
+  setting = record { rows_are = r.rows; grown = t.grown; places = r.places; is_plan = a_plan }
 
   pub no_place : HasNone c made.tree made.actions (Somehow stands) → HasNoPlace c plan
   no_place n = record {
@@ -114,8 +128,8 @@ module _ (c : Compiled) (s : IsSoundlyCompiled c) (plan : HPlan) (made : PlanTre
   }
 
   module _ (found : Stands) (x : AreFound c made history found) where
-    latest_gap : (gap : Address → ℕ) × ((k : ℕ) (p : Address) → slice_get (preorder N T) k ≡ Some p → slice_get found.gaps k ≡ Some (gap p))
-        × IsLatest N T acts May gap
+    latest_gap : (gap : Address → ℕ)
+        × ((k : ℕ) (p : Address) → slice_get (preorder N T) k ≡ Some p → slice_get found.gaps k ≡ Some (gap p)) × IsLatest N T acts May gap
     latest_gap = x.latest T acts setting
 
     abbrev gap : Address → ℕ
@@ -137,7 +151,7 @@ module _ (c : Compiled) (s : IsSoundlyCompiled c) (plan : HPlan) (made : PlanTre
         let q : Address = asking c T p in
         let (k, e) = place_of_node N T q a in
         let l : gap q ≤ length acts = latest_gap.2.is.range q a in
-        let t = told k q (gap q) e l in
+        let same = told k q (gap q) e l in
         let within : k < length made.tree = (let m = rows_many in let b = slice_get_within (preorder N T) k q e in omega arith) in
         let may : Somehow stands k (gap q) = (
         let (j, f, m) = latest_gap.2.is.allowed q a in
@@ -145,8 +159,8 @@ module _ (c : Compiled) (s : IsSoundlyCompiled c) (plan : HPlan) (made : PlanTre
         let first = x.first k (gap q) within (latest_gap.1 k q e) may in
         let here : slice_index_or found.values k [] ≡ values p = ap (λ n. slice_index_or found.values n []) (sym (its_place k q e)) in
         subst (IsFirst (λ v. MayStand c T r.done q v (gap q))) here (record {
-          is = (t.each (slice_index_or found.values k [])).0 first.is;
-          none_before = λ others o b. first.none_before others ((t.each others).1 o) b;
+          is = (same.each (slice_index_or found.values k [])).0 first.is;
+          none_before = λ others o b. first.none_before others ((same.each others).1 o) b;
         })
 
     asking_node : (p : Address) → IsAddress N T p → IsAddress N T (asking c T p)
@@ -158,27 +172,30 @@ module _ (c : Compiled) (s : IsSoundlyCompiled c) (plan : HPlan) (made : PlanTre
         go (used g) e = at (is_checked c g) refl
           where
             at : (b : Bool) → is_checked c g ≡ b → IsAddress N T (cond b (0 ∷ p) p)
-            at true f = (_, check_below c s.problem s.checks s.sound s.compiled T r.has.of_plan.grown r.has.of_plan.no_leaves r.has.of_plan.root p g e f)
+            at true f = (_, check_there p g e f)
             at false f = (used g, e)
 
-    first : (p : Address) → IsAddress N T p → IsFirst (λ v. MayStand c T r.done (asking c T p) v (gap (asking c T p))) (values p)
+    first : (p : Address) → IsAddress N T p
+        → IsFirst (λ v. MayStand c T r.done (asking c T p) v (gap (asking c T p))) (values p)
     first p a = first_at p (asking_node p a)
 
     -- so each node may stand in its gap
     all_stand : (p : Address) → IsAddress N T p → MayStandWith c T r.done values p (gap p)
-    all_stand p a = elim (asks c s.problem s.checks s.sound s.compiled T r.has.of_plan.grown r.has.of_plan.no_leaves r.has.of_plan.root r.done p) [
-      | inl e ↦ subst (λ z. MayStand c T r.done z (values (chooser c T p)) (gap z)) (sym e) (first_at (chooser c T p) (subst (IsAddress N T) e a)).is
-      | inr any ↦ any (values (chooser c T p)) (gap p)
-    ]
+    all_stand p a =
+        let q : Address = chooser c T p in
+        elim (asks c s.problem s.checks s.sound s.compiled T t.grown t.no_leaves t.root r.done p) [
+          | inl e ↦ subst (λ z. MayStand c T r.done z (values q) (gap z)) (sym e) (first_at q (subst (IsAddress N T) e a)).is
+          | inr any ↦ any (values q) (gap p)
+        ]
 
     have : (q : Address) (g : GroundMethod) → label_at N T q ≡ Some (used g) → CanHave c g (values q)
-    have = each_can_have c s.problem s.checks s.sound s.compiled T r.has.of_plan.grown r.has.of_plan.no_leaves r.has.of_plan.root r.done values gap all_stand
+    have = each_can_have c s.problem s.checks s.sound s.compiled T t.grown t.no_leaves t.root r.done values gap all_stand
 
     abbrev T' : Tree N
     T' = chosen c T values
 
     shape : IsSameShape N T T'
-    shape = (choice c s.problem s.checks s.sound s.compiled T r.has.of_plan.grown r.has.of_plan.no_leaves r.has.of_plan.root r.done).shape values
+    shape = a_choice.shape values
 
     same_nodes : preorder N T' ≡ preorder N T
     same_nodes = preorder_new N (work_with values) (method_with values) T
@@ -186,8 +203,8 @@ module _ (c : Compiled) (s : IsSoundlyCompiled c) (plan : HPlan) (made : PlanTre
     chosen_setting : choosing.IsSetting c made.tree found.values T values
     chosen_setting = record {
       rows_are = r.rows;
-      grown = r.has.of_plan.grown;
-      root = r.has.of_plan.root;
+      grown = t.grown;
+      root = t.root;
       values_are = λ k j p e f. ap (λ n. slice_index_or found.values n []) (its_place j (asking c T p) f);
       same_task = λ p g e. (have p g e).head;
     }
@@ -196,7 +213,7 @@ module _ (c : Compiled) (s : IsSoundlyCompiled c) (plan : HPlan) (made : PlanTre
         → ordering.IsSetting c rows made.actions found.gaps T' acts gap
     order_setting rows e = record {
       rows_are = e;
-      grown = grown_chosen c T values have r.has.of_plan.grown;
+      grown = grown_chosen c T values have t.grown;
       actions_are = subst (λ (z : List Address). AreAt z made.actions acts) (sym same_nodes) r.places;
       is_plan = same_plan N T T' shape acts a_plan;
       gaps_are = λ k p f. latest_gap.1 k p (subst (λ (z : List Address). slice_get z k ≡ Some p) same_nodes f);
@@ -224,13 +241,14 @@ module _ (c : Compiled) (s : IsSoundlyCompiled c) (plan : HPlan) (made : PlanTre
         }
 
     -- the tree with these values, and the order of these gaps
-    pub found_run : (list : List (List ℕ)) (gaps places : List ℕ) → list ≡ found.values → gaps ≡ found.gaps → places ≡ made.actions
-        → (run : Scheduled) → IsChosenTree c made.tree list run.tree
+    pub found_run : (list : List (List ℕ)) (gaps places : List ℕ) → list ≡ found.values → gaps ≡ found.gaps
+        → places ≡ made.actions → (run : Scheduled) → IsChosenTree c made.tree list run.tree
         → ((other : Tree N) (nodes : List Address) (gap : Address → ℕ) → ordering.IsSetting c run.tree places gaps other nodes gap
         → IsOrderOf c other nodes gap run.order)
         → IsPlacedRun c plan run
     found_run list gaps places e f g run is_chosen is_order =
-        let rows : run.tree ≡ table of_rows.labels (labelled c T') = subst (λ (z : List (List ℕ)). IsChosenTree c made.tree z run.tree) e is_chosen T values chosen_setting in
+        let rows : run.tree ≡ table of_rows.labels (labelled c T') =
+        subst (λ (z : List (List ℕ)). IsChosenTree c made.tree z run.tree) e is_chosen T values chosen_setting in
         let here : ordering.IsSetting c run.tree places gaps T' acts gap =
         subst (λ (z : List ℕ). ordering.IsSetting c run.tree z gaps T' acts gap) (sym g)
         (subst (λ (z : List ℕ). ordering.IsSetting c run.tree made.actions z T' acts gap) (sym f) (order_setting run.tree rows)) in

@@ -1,5 +1,5 @@
 -- The numbers of a plan's primitive lines are those of the labels at their nodes in a tree of the plan.
-use Rattle.std.proofs.Common.{ℕ, ◌≡◌, false, List, [], ◌∷◌, map, length, Option, Some, None, refl, ap, sym, subst, ◌∙◌, Contains, arith}
+use Rattle.std.proofs.Common.{ℕ, ◌≡◌, false, List, [], ◌∷◌, map, Option, Some, None, refl, ap, sym, subst, ◌∙◌, Contains}
 use Rattle.plan_texts.specs.SoundlyCompiled.{IsSoundlyCompiled}
 use Rattle.plan_texts.specs.Together.{Together}
 use Rattle.plan_model.specs.declared.values.Compiled.{Compiled}
@@ -23,14 +23,8 @@ use Rattle.numbered_lines.specs.declared.lines.Said.{Said}
 use Rattle.numbered_lines.specs.Numbered.{AreSaid}
 use Rattle.plan_placer.specs.Executed.{IsLabelOf, AreLabelsOf}
 
--- lists that go together are of one length
-pub same_many : {X Y : Type 0} (R : X → Y → Type 0) (xs : List X) (ys : List Y) → Together R xs ys → length ys ≡ length xs
-same_many R [] [] t = refl
-same_many R (x ∷ xs) (y ∷ ys) t = let e = same_many R xs ys t.1 in omega arith
-same_many R [] (y ∷ ys) t = absurd t
-same_many R (x ∷ xs) [] t = absurd t
-
-module _ (c : Compiled) (s : IsSoundlyCompiled c) (plan : HPlan) (tree : Tree (network c)) (node : ℕ → Address) (t : IsTreeOfPlan c plan tree node) where
+module _ (c : Compiled) (s : IsSoundlyCompiled c) (plan : HPlan) (tree : Tree (network c)) (node : ℕ → Address)
+    (t : IsTreeOfPlan c plan tree node) where
   abbrev N : Net
   N = network c
 
@@ -50,8 +44,9 @@ module _ (c : Compiled) (s : IsSoundlyCompiled c) (plan : HPlan) (tree : Tree (n
   one_label : (line : HLine) → Contains plan.primitives line → (step : Option Said) → AreSaid c action line step → IsOne line step
   one_label line d step said =
       let line_is = t.of_plan.steps (step_of line) (in_map step_of plan.primitives line d) in
-      let (w, e, n, i, f) = of_lines.step_of N (words c) (label_at N tree (node line.id)) (node line.id) (renamed_step node (step_of line)) line_is in
-      go w e (known_at (node line.id) w e n) (simple_at N tree t.grown (node line.id) w e) f step said
+      let p : Address = node line.id in
+      let (w, e, n, i, f) = of_lines.step_of N (words c) (label_at N tree p) p (renamed_step node (step_of line)) line_is in
+      go w e (known_at p w e n) (simple_at N tree t.grown p w e) f step said
     where
       go : (w : Work) → label_at N tree (node line.id) ≡ Some (ran w) → IsKnown c w → IsPrimitive w → call_of line ≡ call c w
           → (step : Option Said) → AreSaid c action line step → IsOne line step

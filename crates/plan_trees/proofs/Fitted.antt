@@ -50,7 +50,8 @@ use Rattle.plan_trees.specs.Seeds.{IsFittedTree, IsTaskAt, StandsAt}
 use Rattle.plan_trees.proofs.Growing.{EachStands}
 
 -- the item that goes with the one at a place
-pub together_at : {X Y : Type 0} (R : X → Y → Type 0) (xs : List X) (ys : List Y) (k : ℕ) (x : X) → Together R xs ys → slice_get xs k ≡ Some x
+pub together_at : {X Y : Type 0} (R : X → Y → Type 0) (xs : List X) (ys : List Y) (k : ℕ) (x : X) → Together R xs ys
+    → slice_get xs k ≡ Some x
     → (y : Y) × (slice_get ys k ≡ Some y) × R x y
 together_at R [] ys k x t e = absurd cc
 together_at R (u ∷ xs) [] k x t e = absurd t
@@ -96,7 +97,8 @@ module _ (c : Compiled) (plan : HPlan) (lines : declared.Lines) (n : AreNumbered
     | inr (j, a, b) ↦ absurd (let m = as_many_steps in omega arith)
   ]
 
-  pub node_at : (k id : ℕ) → slice_get (task_ids plan) (L + k) ≡ Some id → (x : HNode) × (slice_get plan.nodes k ≡ Some x) × (x.line.id ≡ id)
+  pub node_at : (k id : ℕ) → slice_get (task_ids plan) (L + k) ≡ Some id → (x : HNode) × (slice_get plan.nodes k ≡ Some x)
+      × (x.line.id ≡ id)
   node_at k id e = elim (get_cases (map line_id plan.primitives) (map node_id plan.nodes) (L + k) id e) [
     | inl (m, a) ↦ absurd (let l = as_many_steps in omega arith)
     | inr (j, a, b) ↦ (
@@ -135,7 +137,8 @@ module _ (c : Compiled) (plan : HPlan) (lines : declared.Lines) (n : AreNumbered
         has = has;
         label = ap (label_at N tree) (sym here) ∙ t.splits k x fit at has;
         ids = x.ids;
-        listed = subst (λ z. Together (IsAtPlace (task_ids plan)) z x.ids) (sym (ap (λ o. option_map_or (λ (z : Splits.Split). z.children) o []) there)) of.children_are;
+        listed = subst (λ z. Together (IsAtPlace (task_ids plan)) z x.ids) (sym (ap (λ o. option_map_or
+            (λ (z : Splits.Split). z.children) o []) there)) of.children_are;
         children = ap (children_shown N W tree) (sym here) ∙ sym kids;
       }
 
@@ -145,7 +148,12 @@ module _ (c : Compiled) (plan : HPlan) (lines : declared.Lines) (n : AreNumbered
     where
       go : (b : Bool) → nat_lt place L ≡ b → Stands (cond b (Step place) (Task (Some (place - L)))) p
       go true l = (ltb-true place L l, (id, e, sym q))
-      go false l = (id, ap (slice_get (task_ids plan)) (let m = not_below place L l in let x : L + (place - L) ≡ place = omega arith in x) ∙ e, sym q)
+      go false l = (
+        id,
+        ap (slice_get (task_ids plan))
+            (let m = not_below place L l in let x : L + (place - L) ≡ place = omega arith in x) ∙ e,
+        sym q,
+      )
         where
           not_below : (a b : ℕ) → nat_lt a b ≡ false → b ≤ a
           not_below a b e = elim (cases_lt a b) [ inl l ↦ absurd (let x = lt-ltb a b l in cc) | inr l ↦ l ]
@@ -166,7 +174,8 @@ module _ (c : Compiled) (plan : HPlan) (lines : declared.Lines) (n : AreNumbered
 
   -- a primitive has nothing below it
   nothing_below : (p : Address) (w : Work) → label_at N tree p ≡ Some (ran w) → (i : ℕ) → IsAddress N tree (i ∷ p) → i < 0
-  nothing_below p w e i a = let (m, o) = parent_label N tree i p a in let x : (let z : Option (Label N) = Some (ran w) in z) ≡ Some (used m) = sym e ∙ o in cc
+  nothing_below p w e i a = let (m, o) = parent_label N tree i p a in let x :
+      (let z : Option (Label N) = Some (ran w) in z) ≡ Some (used m) = sym e ∙ o in cc
 
   pub step_label_at : (k : ℕ) (x : HLine) → slice_get plan.primitives k ≡ Some x
       → (w : Work) × (label_at N tree (node x.id) ≡ Some (ran w)) × (is_check w ≡ false) × (call c w ≡ call_of x)
@@ -204,7 +213,8 @@ module _ (c : Compiled) (plan : HPlan) (lines : declared.Lines) (n : AreNumbered
         is_head head.Check args e = refl
 
     shown_are : (m : GroundMethod) → Lines.shown_children N W m ≡ falses 0 (map is_check (N.works m))
-    shown_are m = passing (Lines.is_shown N W) is_check (λ w. refl) (N.works m) (N.works m) 0 (λ k. ap (slice_get (N.works m)) (let x : 0 + k ≡ k = omega arith in x))
+    shown_are m = passing (Lines.is_shown N W) is_check (λ w. refl) (N.works m) (N.works m) 0 (λ k. ap (slice_get (N.works m))
+        (let x : 0 + k ≡ k = omega arith in x))
 
     not_true : (b : Bool) → (b ≡ true → ⊥) → b ≡ false
     not_true true n = absurd (n refl)
@@ -213,13 +223,15 @@ module _ (c : Compiled) (plan : HPlan) (lines : declared.Lines) (n : AreNumbered
     -- without a check all children are shown, and with a check all but the first
     shown_without : (m : GroundMethod) (p : MethodPlan) → slice_get c.methods m.number ≡ Some p → p.checked ≡ false
         → Lines.shown_children N W m ≡ numbers 0 (count N m)
-    shown_without m p e y = shown_are m ∙ no_checks (N.works m) 0 (λ i w at. not_true (is_check w) (λ z. (let r = (only_check m p e i w at z).1 in let q = sym r ∙ y in cc)))
+    shown_without m p e y = shown_are m ∙ no_checks (N.works m) 0 (λ i w at. not_true (is_check w) (λ z.
+        (let r = (only_check m p e i w at z).1 in let q = sym r ∙ y in cc)))
 
     shown_with : (m : GroundMethod) (p : MethodPlan) → slice_get c.methods m.number ≡ Some p → p.checked ≡ true
         → (k : ℕ) × (count N m ≡ 1 + k) × (Lines.shown_children N W m ≡ numbers 1 k)
     shown_with m p e y = go (N.works m) refl (shown_are m) (check_of m p e y)
       where
-        go : (ws : List Work) → N.works m ≡ ws → Lines.shown_children N W m ≡ falses 0 (map is_check ws) → slice_get ws 0 ≡ Some (check m.number m.values)
+        go : (ws : List Work) → N.works m ≡ ws → Lines.shown_children N W m ≡ falses 0 (map is_check ws)
+            → slice_get ws 0 ≡ Some (check m.number m.values)
             → (k : ℕ) × (length ws ≡ 1 + k) × (Lines.shown_children N W m ≡ numbers 1 k)
         go [] same s at = absurd cc
         go (w ∷ ws) same s at =
@@ -227,10 +239,12 @@ module _ (c : Compiled) (plan : HPlan) (lines : declared.Lines) (n : AreNumbered
               length ws,
               (let x : suc (length ws) ≡ 1 + length ws = omega arith in x),
               s ∙ ap (λ z. falses 0 (is_check z ∷ map is_check ws)) first
-                  ∙ no_checks ws 1 (λ i v at. not_true (is_check v) (λ z. (let r = (only_check m p e (suc i) v (ap (λ z. slice_get z (suc i)) same ∙ at) z).0 in omega arith))),
+                  ∙ no_checks ws 1 (λ i v at. not_true (is_check v) (λ z. (let r = (only_check m p e (suc i) v (ap
+                  (λ z. slice_get z (suc i)) same ∙ at) z).0 in omega arith))),
             )
 
-    checked_is : (task : Option ℕ) (fit : MethodFit) (p : MethodPlan) → fit_of fits task ≡ Some fit → slice_get c.methods fit.method ≡ Some p
+    checked_is : (task : Option ℕ) (fit : MethodFit) (p : MethodPlan) → fit_of fits task ≡ Some fit
+        → slice_get c.methods fit.method ≡ Some p
         → is_checked c (fit_of fits task) ≡ p.checked
     checked_is which fit p e there = ap (is_checked c) e ∙ ap (λ o. option_map_or (λ (z : MethodPlan). z.checked) o false) there
 
@@ -251,15 +265,18 @@ module _ (c : Compiled) (plan : HPlan) (lines : declared.Lines) (n : AreNumbered
         within : (i : ℕ) → IsAddress N tree (i ∷ p) → i < count N m
         within i a = address_child N tree p m i g.grown k.label a
 
-        go : (b : Bool) → is_checked c (fit_of fits which) ≡ b → EachStands N tree Stands p 0 (cond b (Check which ∷ []) [] ++ lines_below lines which)
+        go : (b : Bool) → is_checked c (fit_of fits which) ≡ b
+            → EachStands N tree Stands p 0 (cond b (Check which ∷ []) [] ++ lines_below lines which)
         go true e =
             let (j, many, shown) = shown_with m ground.plan ground.is (sym (checked_is which k.fit ground.plan k.has ground.is) ∙ e) in (
               (p, there, refl, e),
-              lines_stand (listed lines which) k.ids 1 j p k.listed (kids ∙ ap (map (λ i. i ∷ p)) shown) (λ i a. (let x = within i a in let y : i < 1 + j = omega arith in y)),
+              lines_stand (listed lines which) k.ids 1 j p k.listed (kids ∙ ap (map (λ i. i ∷ p)) shown) (λ i a.
+                  (let x = within i a in let y : i < 1 + j = omega arith in y)),
             )
         go false e =
             let shown = shown_without m ground.plan ground.is (sym (checked_is which k.fit ground.plan k.has ground.is) ∙ e) in
-            lines_stand (listed lines which) k.ids 0 (count N m) p k.listed (kids ∙ ap (map (λ i. i ∷ p)) shown) (λ i a. (let x = within i a in let y : i < 0 + count N m = omega arith in y))
+            lines_stand (listed lines which) k.ids 0 (count N m) p k.listed (kids ∙ ap (map (λ i. i ∷ p)) shown) (λ i a.
+            (let x = within i a in let y : i < 0 + count N m = omega arith in y))
 
     pub check_label_at : (task : Option ℕ) (q : Address) → IsTaskAt c lines fits plan node task q → is_checked c (fit_of fits task) ≡ true
         → (fit : MethodFit) × (fit_of fits task ≡ Some fit) × (label_at N tree (0 ∷ q) ≡ Some (ran (check fit.method fit.values)))

@@ -21,11 +21,13 @@ IsDone place j x i = (x < place) ⊎ ((x ≡ place) × (i < j))
 module _ (N : Net) (tree : Tree N) (Stands : Source → Address → Type 0) where
   pub record IsSoFar (all : List Seed) (order : List Address) (place j : ℕ) : Type 0 where
     pub many : length order ≡ length all
-    pub under : (k : ℕ) (s : Seed) (p : Address) → slice_get all k ≡ Some s → slice_get order k ≡ Some p → IsUnder N order k s.parent s.child p
+    pub under : (k : ℕ) (s : Seed) (p : Address) → slice_get all k ≡ Some s → slice_get order k ≡ Some p
+        → IsUnder N order k s.parent s.child p
     pub stands : (k : ℕ) (s : Seed) (p : Address) → slice_get all k ≡ Some s → slice_get order k ≡ Some p → Stands s.source p
     pub put : (k x : ℕ) (s : Seed) → slice_get all k ≡ Some s → s.parent ≡ Some x → IsDone place j x s.child
     pub root : Contains order []
-    pub below : (k i : ℕ) (p : Address) → IsDone place j k i → slice_get order k ≡ Some p → IsAddress N tree (i ∷ p) → Contains order (i ∷ p)
+    pub below : (k i : ℕ) (p : Address) → IsDone place j k i → slice_get order k ≡ Some p → IsAddress N tree (i ∷ p)
+        → Contains order (i ∷ p)
     pub different : AreDifferent order
 
   -- the children from number j on are these, and there are no others
@@ -33,7 +35,8 @@ module _ (N : Net) (tree : Tree N) (Stands : Source → Address → Type 0) wher
   EachStands p j [] = (i : ℕ) → IsAddress N tree (i ∷ p) → i < j
   EachStands p j (s ∷ ss) = Stands s (j ∷ p) × EachStands p (suc j) ss
 
-  under_more : (order more : List Address) (k : ℕ) (o : Option ℕ) (i : ℕ) (p : Address) → IsUnder N order k o i p → IsUnder N (order ++ more) k o i p
+  under_more : (order more : List Address) (k : ℕ) (o : Option ℕ) (i : ℕ) (p : Address) → IsUnder N order k o i p
+      → IsUnder N (order ++ more) k o i p
   under_more order more k None i p x = x
   under_more order more k (Some m) i p (l, (q, e, f)) = (l, (q, get_left order more m q e, f))
 
@@ -47,7 +50,8 @@ module _ (N : Net) (tree : Tree N) (Stands : Source → Address → Type 0) wher
   one_more all order place j p s f here st = record {
     many = length-append order ((j ∷ p) ∷ []) ∙ ap (λ n. n + 1) f.many ∙ sym (length-append all (seeds place j (s ∷ [])));
     under = λ k t q e g. elim (get_cases all (new ∷ []) k t e) [
-      | inl (l, x) ↦ under_more order ((j ∷ p) ∷ []) k t.parent t.child q (f.under k t q x (old_address k q (let m = f.many in let y : k < length order = omega arith in y) g))
+      | inl (l, x) ↦ under_more order ((j ∷ p) ∷ []) k t.parent t.child q (f.under k t q x (old_address k q
+          (let m = f.many in let y : k < length order = omega arith in y) g))
       | inr (i, x, y) ↦ (
           let z = only i t y in
           let a = new_address k i q x z.0 g in
@@ -107,7 +111,8 @@ module _ (N : Net) (tree : Tree N) (Stands : Source → Address → Type 0) wher
         | inr l ↦ (
             let e : j ≡ i = omega arith in
             let g : p ≡ q = some_once (sym here ∙ ap (slice_get order) (sym u) ∙ x) in
-            Contains-append_right order ((j ∷ p) ∷ []) (i ∷ q) (subst (Contains ((j ∷ p) ∷ [])) (λ n. e n ∷ g n) (Contains-here (j ∷ p) [])))
+            Contains-append_right order ((j ∷ p) ∷ []) (i ∷ q) (subst (Contains ((j ∷ p) ∷ []))
+            (λ n. e n ∷ g n) (Contains-here (j ∷ p) [])))
       ]
 
       is_new : Contains order (j ∷ p) → ⊥
@@ -125,7 +130,8 @@ module _ (N : Net) (tree : Tree N) (Stands : Source → Address → Type 0) wher
               elim (f.put k x t g h) [ inl u ↦ omega arith | inr (u, v) ↦ omega arith ]
 
   -- a seed that has all its children
-  pub whole : (all : List Seed) (order : List Address) (place j : ℕ) (p : Address) → IsSoFar all order place j → slice_get order place ≡ Some p
+  pub whole : (all : List Seed) (order : List Address) (place j : ℕ) (p : Address) → IsSoFar all order place j
+      → slice_get order place ≡ Some p
       → ((i : ℕ) → IsAddress N tree (i ∷ p) → i < j) → IsSoFar all order (suc place) 0
   whole all order place j p f here n = record {
     many = f.many;
@@ -155,10 +161,15 @@ module _ (N : Net) (tree : Tree N) (Stands : Source → Address → Type 0) wher
   pub all_more : (ss : List Source) (all : List Seed) (order : List Address) (place j : ℕ) (p : Address) → IsSoFar all order place j
       → slice_get order place ≡ Some p → EachStands p j ss
       → (longer : List Address) × IsSoFar (all ++ seeds place j ss) longer (suc place) 0
-  all_more [] all order place j p f here e = (order, subst (λ z. IsSoFar z order (suc place) 0) (sym (append-nil all)) (whole all order place j p f here e))
+  all_more [] all order place j p f here e = (
+    order,
+    subst
+        (λ z. IsSoFar z order (suc place) 0) (sym (append-nil all)) (whole all order place j p f here e),
+  )
   all_more (s ∷ ss) all order place j p f here (st, e) =
       let more = one_more all order place j p s f here st in
-      let (longer, r) = all_more ss (all ++ seeds place j (s ∷ [])) (order ++ (j ∷ p) ∷ []) place (suc j) p more (get_left order ((j ∷ p) ∷ []) place p here) e in
+      let (longer, r) = all_more ss (all ++ seeds place j (s ∷ [])) (order ++ (j ∷ p) ∷ []) place (suc j) p more
+      (get_left order ((j ∷ p) ∷ []) place p here) e in
       (longer, subst (λ z. IsSoFar z longer (suc place) 0) (append_assoc all (seeds place j (s ∷ [])) (seeds place (suc j) ss)) r)
 
   -- the root alone
@@ -180,12 +191,14 @@ module _ (N : Net) (tree : Tree N) (Stands : Source → Address → Type 0) wher
       no_parent zero x t e g = absurd (let h : first ≡ t = cc in let r = ap (λ (z : Seed). z.parent) h in cc)
       no_parent (suc k) x t e g = absurd cc
 
-      only : (k : ℕ) (t : Seed) (p : Address) → slice_get (first ∷ []) k ≡ Some t → slice_get (let x : List Address = [] ∷ [] in x) k ≡ Some p → (first ≡ t) × ([] ≡ p)
+      only : (k : ℕ) (t : Seed) (p : Address) → slice_get (first ∷ []) k ≡ Some t → slice_get
+          (let x : List Address = [] ∷ [] in x) k ≡ Some p → (first ≡ t) × ([] ≡ p)
       only zero t p e g = (let x : first ≡ t = cc in x, cc)
       only (suc k) t p e g = absurd cc
 
   -- where all seeds have their children, each node has its seed
-  pub all_there : (all : List Seed) (order : List Address) (place : ℕ) → IsSoFar all order place 0 → length all ≤ place → (p : Address) → IsAddress N tree p
+  pub all_there : (all : List Seed) (order : List Address) (place : ℕ) → IsSoFar all order place 0 → length all ≤ place → (p : Address)
+      → IsAddress N tree p
       → Contains order p
   all_there all order place f l [] a = f.root
   all_there all order place f l (i ∷ p) a =

@@ -76,7 +76,8 @@ module _ (c : Compiled) (plan : HPlan) (lines : declared.Lines) (n : AreNumbered
   work_used m (split k ts) e = ap N.head (let x : k ≡ m = cc in x)
 
   known_ran : (p : Address) (w : Work) → label_at N tree p ≡ Some (ran w) → is_check w ≡ false → IsKnown c w
-  known_ran [] w e nc = absurd (let r = t.root in let x : (let z : Label N = ran w in z) ≡ used (method_of fits.root) = some_once (sym e ∙ r) in cc)
+  known_ran [] w e nc = absurd (let r = t.root in let x : (let z : Label N = ran w in z) ≡ used (method_of fits.root) = some_once (sym e
+      ∙ r) in cc)
   known_ran (j ∷ q) w e nc = known_child j q (ran w) w e (work_ran w) nc
 
   known_used : (p : Address) (m : GroundMethod) → label_at N tree p ≡ Some (used m) → (p ≡ [] → ⊥) → is_check (N.head m) ≡ false
@@ -93,15 +94,20 @@ module _ (c : Compiled) (plan : HPlan) (lines : declared.Lines) (n : AreNumbered
       let (x, at, same) = step_at c plan lines n fits f tree node t k id l e in
       let (w, lab, nc, says) = step_label_at c plan lines n fits f tree node t k x at in
       let (o, there, said) = together_at (AreSaid c action) plan.primitives lines.steps k x n.steps_are at in
-      let here = ap (label_at N tree) (q ∙ ap node (sym same)) ∙ lab in
-      (ran w, here, go w x o nc (simple_at N tree g.grown p w here) (known_ran p w here nc) says said ∙ ap (λ z. label_of (sources.step_label z)) (sym there))
+      let here = ap (label_at N tree) (q ∙ ap node (sym same)) ∙ lab in (
+        ran w,
+        here,
+        go w x o nc (simple_at N tree g.grown p w here) (known_ran p w here nc) says said
+            ∙ ap (λ z. label_of (sources.step_label z)) (sym there),
+      )
     where
       go : (w : Work) (x : HLine) (o : Option Said) → is_check w ≡ false → IsPrimitive w → IsKnown c w → call c w ≡ call_of x
           → AreSaid c action x o → (let z : Label labels = ran w in z) ≡ label_of (sources.step_label (Some o))
       go (check m v) x o nc pr kn says said = absurd cc
       go (task m v) x o nc pr kn says said = absurd pr
       go (action a v) x None nc pr kn says said = absurd (said a v (record { known = kn; says = says }))
-      go (action a v) x (Some s) nc pr kn says said = ap ran (same_action c h mode sound is a s.number v s.objects kn (says ∙ sym said.says))
+      go (action a v) x (Some s) nc pr kn says said = ap ran (same_action c h mode sound is a s.number v s.objects kn (says
+          ∙ sym said.says))
 
   split_has : (k : ℕ) (p : Address) → IsNodeOf c lines fits plan node (length lines.steps + k) p → HasLabel (Task (Some k)) p
   split_has k p (id, e, q) =
@@ -115,7 +121,8 @@ module _ (c : Compiled) (plan : HPlan) (lines : declared.Lines) (n : AreNumbered
         used (method_of fit),
         here,
         go fit x own.task a v head (subst (IsKnown c) head kn) (sym (ap (call c) head) ∙ says) of.task_is
-            ∙ (λ i. label_of (sources.fitted_label own.task (sym has i))) ∙ ap (λ z. label_of (sources.split_label z (slice_get fits.splits k))) (sym there),
+            ∙ (λ i. label_of (sources.fitted_label own.task (sym has i))) ∙ ap
+            (λ z. label_of (sources.split_label z (slice_get fits.splits k))) (sym there),
       )
     where
       go : (fit : MethodFit) (x : HNode) (o : Option Said) (a : ℕ) (v : List ℕ) → N.head (method_of fit) ≡ task a v → IsKnown c (task a v)
@@ -137,7 +144,8 @@ module _ (c : Compiled) (plan : HPlan) (lines : declared.Lines) (n : AreNumbered
   root_has : (p : Address) → p ≡ [] → HasLabel (Task None) p
   root_has p e =
       let head = f.root.head in
-      let number : top_task c ≡ c.hddl.top.task = subst (λ (z : Hddl). length z.tasks ≡ z.top.task) (sym is.hddl) (sym sound.value.top_task) in
+      let number : top_task c ≡ c.hddl.top.task = subst
+      (λ (z : Hddl). length z.tasks ≡ z.top.task) (sym is.hddl) (sym sound.value.top_task) in
       let same = head ∙ ap (λ z. task z []) number in
       (used (method_of fits.root), ap (label_at N tree) e ∙ t.root, λ i. used (record { head = same i; method = method_of fits.root }))
 

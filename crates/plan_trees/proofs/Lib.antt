@@ -5,3 +5,4 @@ pub mod Seeding
 pub mod Labelling
 pub mod FittedTrees
 pub mod Planted
+pub mod Joined

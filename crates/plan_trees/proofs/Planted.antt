@@ -41,13 +41,18 @@ as_many_at nodes [] (p ∷ ps) a = absurd a
 as_many_at nodes (k ∷ ks) [] a = absurd a
 as_many_at nodes (k ∷ ks) (p ∷ ps) a = ap suc (as_many_at nodes ks ps a.1)
 
-node_at_place : (nodes : List Address) (ks : List ℕ) (ps : List Address) → AreAt nodes ks ps → (i : ℕ) (p : Address) → slice_get ps i ≡ Some p
+node_at_place : (nodes : List Address) (ks : List ℕ) (ps : List Address) → AreAt nodes ks ps → (i : ℕ) (p : Address)
+    → slice_get ps i ≡ Some p
     → (k : ℕ) × (slice_get ks i ≡ Some k) × (slice_get nodes k ≡ Some p)
 node_at_place nodes [] [] a i p e = absurd cc
 node_at_place nodes [] (q ∷ ps) a i p e = absurd a
 node_at_place nodes (k ∷ ks) [] a i p e = absurd a
 node_at_place nodes (k ∷ ks) (q ∷ ps) a zero p e = (k, refl, a.0 ∙ e)
 node_at_place nodes (k ∷ ks) (q ∷ ps) a (suc i) p e = node_at_place nodes ks ps a.1 i p e
+
+same_place : (made : List ℕ) (nodes : List Address) (j x k : ℕ) (p : Address) → slice_get made j ≡ Some x → slice_get made j ≡ Some k
+    → slice_get nodes k ≡ Some p → slice_get nodes x ≡ Some p
+same_place made nodes j x k p e f g = subst (λ z. slice_get nodes z ≡ Some p) (let h : k ≡ x = cc in h) g
 
 -- as many addresses as seeds
 pub as_many_as : (c : Compiled) (lines : Lines) (fits : Fits) (seeds : List Seed) (run : Scheduled)
@@ -57,7 +62,8 @@ as_many_as c lines fits seeds run r =
     ∙ length-map (map (growth c lines fits) seeds) growth_of ∙ length-map seeds (growth c lines fits)
 
 module _ (c : Compiled) (plan : HPlan) (sp : IsSoundHPlan plan) (lines : Lines) (n : AreNumbered c plan lines) (fits : Fits)
-    (f : AreFits c plan fits) (sc : IsSoundlyCompiled c) (tree : Tree (network c)) (node : ℕ → Address) (t : IsFittedTree c plan fits tree node) where
+    (f : AreFits c plan fits) (sc : IsSoundlyCompiled c) (tree : Tree (network c)) (node : ℕ
+    → Address) (t : IsFittedTree c plan fits tree node) where
   abbrev N : Net
   N = network c
 
@@ -110,7 +116,8 @@ module _ (c : Compiled) (plan : HPlan) (sp : IsSoundHPlan plan) (lines : Lines) 
       }
     where
       each_of : (g : Growth N) → IsGrowthOf s p g → (r : AreGrowthsOf ss ps) → (k : ℕ) (h : Growth N) (q : Address)
-          → slice_get (g ∷ r.growths) k ≡ Some h → slice_get (p ∷ ps) k ≡ Some q → (u : Seed) × (slice_get (s ∷ ss) k ≡ Some u) × IsGrowthOf u q h
+          → slice_get (g ∷ r.growths) k ≡ Some h → slice_get (p ∷ ps) k ≡ Some q → (u : Seed) × (slice_get (s ∷ ss) k ≡ Some u)
+          × IsGrowthOf u q h
       each_of g one r zero h q a b =
           let x : g ≡ h = some_once a in
           let y : p ≡ q = some_once b in
@@ -127,7 +134,8 @@ module _ (c : Compiled) (plan : HPlan) (sp : IsSoundHPlan plan) (lines : Lines) 
         many = a.many ∙ sym grown.many;
         under = λ k g p e b. (
             let (s, at, is) = grown.each k g p e b in
-            subst (λ i. IsUnder N order k g.parent i p) (sym is.child) (subst (λ o. IsUnder N order k o s.child p) (sym is.parent) (a.under k s p at b)));
+            subst (λ i. IsUnder N order k g.parent i p) (sym is.child) (subst
+            (λ o. IsUnder N order k o s.child p) (sym is.parent) (a.under k s p at b)));
         labels = λ k g p e b. (let (s, at, is) = grown.each k g p e b in is.label);
       };
       all = a.all;
@@ -165,13 +173,15 @@ module _ (c : Compiled) (plan : HPlan) (sp : IsSoundHPlan plan) (lines : Lines) 
       where
         as_many : length (actions c plan node) ≡ length lines.steps
         as_many =
-            length-map (step_ids (lines_of plan)) node ∙ length-map (lines_of plan).steps (λ (l : StepLine ℕ Call). l.id) ∙ length-map plan.primitives step_of
+            length-map (step_ids (lines_of plan)) node ∙ length-map (lines_of plan).steps (λ (l : StepLine ℕ Call). l.id)
+            ∙ length-map plan.primitives step_of
             ∙ together-length _ plan.primitives lines.steps n.steps_are
 
         many : length made ≡ length (actions c plan node)
         many = are.many ∙ sym as_many
 
-        each : (j x : ℕ) (p : Address) → slice_get made j ≡ Some x → slice_get (actions c plan node) j ≡ Some p → slice_get (preorder N tree) x ≡ Some p
+        each : (j x : ℕ) (p : Address) → slice_get made j ≡ Some x → slice_get (actions c plan node) j ≡ Some p
+            → slice_get (preorder N tree) x ≡ Some p
         each j x p e g =
             let l : j < length lines.steps = (let m = get_within made j x e in let o = are.many in omega arith) in
             let (id, there, same) = mapped node (step_ids (lines_of plan)) j p g in
@@ -181,8 +191,8 @@ module _ (c : Compiled) (plan : HPlan) (sp : IsSoundHPlan plan) (lines : Lines) 
             (get-map line_id plan.primitives j line on ∙ ap Some (ap (λ (z : StepLine ℕ Call). z.id) was ∙ is)) in
             let (k, only, here) = seed_of j id l own in
             let (address, has, node_is) = node_at_place (preorder N tree) run.order order st.places k (node id) here in
-            let noted = are.each j k address l (get_within seeds k only.seed only.there) only has in
-            ap (slice_get (preorder N tree)) (some_once (sym e ∙ noted)) ∙ node_is ∙ ap Some same
+            let noted : slice_get made j ≡ Some address = are.each j k address l (get_within seeds k only.seed only.there) only has in
+            same_place made (preorder N tree) j x address p e noted (subst (λ z. slice_get (preorder N tree) address ≡ Some z) same node_is)
 
 pub is_plan_tree : (c : Compiled) (lines : Lines) (fits : Fits) → IsSoundlyCompiled c → (seeds : List Seed) → length seeds ≤ most_steps
     → AreSeedsOf c lines fits seeds → (run : Scheduled) → IsRun (growths_of (map (growth c lines fits) seeds)) run

@@ -23,9 +23,9 @@ use Rattle.line_fits.specs.Fitted.{ForPlans, AreFits}
 use Rattle.plan_trees.specs.declared.seed.Source.{Source}
 use Rattle.plan_trees.specs.declared.seed.Source.TheVariants.{Step, Task, Check}
 use Rattle.plan_trees.specs.declared.seed.Seed.{Seed}
-use Rattle.plan_trees.specs.Sources.{all_below, seeds}
+use Rattle.plan_trees.specs.Sources.{all_below, seeds, with_children}
 use Rattle.plan_trees.specs.Seeds.{IsFittedTree, IsTaskAt, StandsAt, AreSeedsOf}
-use Rattle.plan_trees.proofs.SeedLists.{length-seeds}
+use Rattle.plan_trees.proofs.SeedLists.{length-seeds, all_put}
 use Rattle.plan_trees.proofs.Growing.{IsSoFar, all_more, at_first, all_there}
 use Rattle.plan_trees.proofs.Fitted.{node_at, below}
 
@@ -106,9 +106,10 @@ module _ (c : Compiled) (lines : Lines) (fits : Fits) where
   pub begun : AreSoFar c lines fits (root_seed ∷ []) 0
   begun plan s p n f tree node t = ([] ∷ [], at_first (network c) tree (StandsAt c lines fits plan node) (Task None) refl)
 
-  pub further : IsSoundlyCompiled c → length lines.steps + length lines.splits ≤ most_lines → (all new : List Seed) (place : ℕ) (seed : Seed)
+  pub further : IsSoundlyCompiled c → length lines.steps + length lines.splits ≤ most_lines
+      → (all new : List Seed) (place : ℕ) (seed : Seed)
       → AreSoFar c lines fits all place → slice_get all place ≡ Some seed
-      → (length all + length (all_below c lines fits seed.source) ≤ most_steps → new ≡ all ++ seeds place 0 (all_below c lines fits seed.source))
+      → new ≡ with_children all place 0 (all_below c lines fits seed.source)
       → AreSoFar c lines fits new (place + 1)
   further sc l all new place seed so at e plan s p n f tree node t =
       let (order, r) = so plan s p n f tree node t in
@@ -119,9 +120,10 @@ module _ (c : Compiled) (lines : Lines) (fits : Fits) where
       let room = few c plan lines n fits f tree node t (all ++ seeds place 0 kids) longer (suc place) 0 m l in
       let many = length-append all (seeds place 0 kids) in
       let as_many = length-seeds place 0 kids in
-      let same = e (omega arith) in (
+      let same = e ∙ all_put all place 0 kids (omega arith) in (
         longer,
-        subst (λ z. IsSoFar (network c) tree (StandsAt c lines fits plan node) new longer z 0) (let x : suc place ≡ place + 1 = omega arith in x)
+        subst (λ z. IsSoFar (network c) tree (StandsAt c lines fits plan node) new longer z 0)
+            (let x : suc place ≡ place + 1 = omega arith in x)
             (subst (λ z. IsSoFar (network c) tree (StandsAt c lines fits plan node) z longer (suc place) 0) (sym same) m),
       )
 

@@ -1,6 +1,6 @@
 -- The seeds of the nodes of a plan's tree: each stands at an address, behind that of its parent.
 -- Source: this project's.
-use Rattle.std.specs.Prelude.{ℕ, ◌≡◌, ◌<◌, ◌+◌, true, List, [], ◌∷◌, length, slice_get, Option, Some, None, Contains}
+use Rattle.std.specs.Prelude.{ℕ, suc, ◌≡◌, ◌<◌, ◌≤◌, ◌+◌, true, List, [], ◌∷◌, length, slice_get, Option, Some, None, Contains}
 use Rattle.htn_base.specs.Different.{AreDifferent}
 use Rattle.plan_model.specs.declared.values.Compiled.{Compiled}
 use Rattle.plan_model.specs.task_networks.Tree.{Tree, Address, used, label_at, IsAddress}
@@ -42,7 +42,8 @@ module _ (c : Compiled) (lines : Lines) (fits : Fits) (plan : HPlan) (node : ℕ
   StandsAt (Check task) p = (q : Address) × IsTaskAt task q × (p ≡ 0 ∷ q) × (is_checked c (fit_of fits task) ≡ true)
 
 -- these are the addresses of the seeds, and all of the tree, each once
-pub record AreSeeds (c : Compiled) (lines : Lines) (fits : Fits) (plan : HPlan) (tree : Tree (network c)) (node : ℕ → Address) (seeds : List Seed)
+pub record AreSeeds (c : Compiled) (lines : Lines) (fits : Fits) (plan : HPlan) (tree : Tree (network c)) (node : ℕ
+    → Address) (seeds : List Seed)
     (order : List Address) : Type 0 where
   pub many : length order ≡ length seeds
   pub under : (k : ℕ) (s : Seed) (p : Address) → slice_get seeds k ≡ Some s → slice_get order k ≡ Some p
@@ -56,3 +57,16 @@ pub record AreSeeds (c : Compiled) (lines : Lines) (fits : Fits) (plan : HPlan) 
 abbrev pub AreSeedsOf : Compiled → Lines → Fits → List Seed → Type 0
 AreSeedsOf c lines fits seeds = ForPlans c lines (λ plan. AreFits c plan fits → (tree : Tree (network c)) (node : ℕ → Address)
     → IsFittedTree c plan fits tree node → (order : List Address) × AreSeeds c lines fits plan tree node seeds order)
+
+-- Whatever the lines say, the seeds are joined: each has a parent before the place, which is a decomposed task, and the children of each are
+-- numbered.
+pub record AreJoinedSeeds (seeds : List Seed) (place : ℕ) : Type 0 where
+  pub first : (s : Seed) × (slice_get seeds 0 ≡ Some s) × (s.parent ≡ None)
+  pub later : (k : ℕ) (s : Seed) → slice_get seeds (suc k) ≡ Some s → (x : ℕ) × (s.parent ≡ Some x) × (x ≤ k) × (x < place)
+  pub tasks : (k x : ℕ) (s up : Seed) → slice_get seeds k ≡ Some s → s.parent ≡ Some x → slice_get seeds x ≡ Some up
+      → (task : Option ℕ) × (up.source ≡ Task task)
+  -- no child number stands twice under one parent, and none is left out
+  pub once : (k l x : ℕ) (s r : Seed) → slice_get seeds k ≡ Some s → slice_get seeds l ≡ Some r → s.parent ≡ Some x → r.parent ≡ Some x
+      → s.child ≡ r.child → k ≡ l
+  pub none_left_out : (k x i : ℕ) (s : Seed) → slice_get seeds k ≡ Some s → s.parent ≡ Some x → s.child ≡ suc i
+      → (l : ℕ) × (r : Seed) × (slice_get seeds l ≡ Some r) × (r.parent ≡ Some x) × (r.child ≡ i)

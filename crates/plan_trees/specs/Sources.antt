@@ -1,7 +1,8 @@
 -- What stands at the nodes of a plan's tree, by the lines of the plan and the methods that fit them, and what is listed below each.
 -- Source: this project's.
-use Rattle.std.specs.Prelude.{ℕ, suc, ◌-◌, nat_lt, List, [], ◌∷◌, ◌++◌, map, length, slice_get, Bool, false, cond, Option, Some, None}
+use Rattle.std.specs.Prelude.{ℕ, suc, ◌-◌, nat_lt, List, [], ◌∷◌, ◌++◌, map, length, take, slice_get, Bool, false, cond, Option, Some, None}
 use Rattle.std.specs.Option.{option_map_or}
+use Rattle.htn_base.specs.Limits.{most_steps}
 use Rattle.plan_model.specs.declared.schemas.MethodPlan.{MethodPlan}
 use Rattle.plan_model.specs.declared.values.Compiled.{Compiled}
 use Rattle.tree_core.specs.declared.label.Label.{Label}
@@ -21,9 +22,12 @@ abbrev pub fit_of : Fits → Option ℕ → Option MethodFit
 fit_of fits None = Some fits.root
 fit_of fits (Some k) = slice_get fits.splits k
 
--- what stands for a line that is in no plan
+-- what stands for a line that is in no plan, and for one of a decomposed task
 abbrev pub no_label : Label
 no_label = Check 0 []
+
+abbrev pub no_task : Label
+no_task = Abstract 0 [] 0 []
 
 abbrev pub step_label : Option (Option Said) → Label
 step_label None = no_label
@@ -37,12 +41,12 @@ abbrev pub task_label : Said → MethodFit → Label
 task_label said fit = Abstract said.number said.objects fit.method fit.values
 
 abbrev pub fitted_label : Option Said → Option MethodFit → Label
-fitted_label None fit = no_label
-fitted_label (Some said) None = no_label
+fitted_label None fit = no_task
+fitted_label (Some said) None = no_task
 fitted_label (Some said) (Some fit) = task_label said fit
 
 abbrev pub split_label : Option Split → Option MethodFit → Label
-split_label None fit = no_label
+split_label None fit = no_task
 split_label (Some split) fit = fitted_label split.task fit
 
 abbrev pub check_label : Option MethodFit → Label
@@ -76,6 +80,10 @@ source_at primitives place = cond (nat_lt place primitives) (source.Step place) 
 abbrev pub seeds : ℕ → ℕ → List Source → List Seed
 seeds parent child [] = []
 seeds parent child (s ∷ ss) = (record { source = s; parent = Some parent; child = child }) ∷ seeds parent (suc child) ss
+
+-- the seeds with these children, of which there are no more than a tree may have nodes
+abbrev pub with_children : List Seed → ℕ → ℕ → List Source → List Seed
+with_children old parent child ss = old ++ seeds parent child (take (most_steps - length old) ss)
 
 abbrev pub lines_below : Lines → Option ℕ → List Source
 lines_below lines task = map (source_at (length lines.steps)) (listed lines task)

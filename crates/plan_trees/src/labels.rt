@@ -20,6 +20,18 @@ fn no_label(alloc: Global) -> Label
     }
 }
 
+/// The same for a line of a decomposed task.
+fn no_task(alloc: Global) -> Label
+    ensures { result ≡ spec.no_task }
+{
+    Label::Abstract {
+        task: 0,
+        args: List::new(alloc),
+        method: 0,
+        method_args: List::new(alloc),
+    }
+}
+
 /// The method of a decomposed task.
 pub(crate) fn fit_of(fits: &Fits, line: Option<u32>) -> Option<&MethodFit>
     ensures { option_copied result ≡ spec.fit_of fits.now line }
@@ -73,14 +85,14 @@ fn split_label(alloc: Global, lines: &Lines, fits: &Fits, line: u32) -> Result<L
     ensures { IfOk result (λ label. label ≡ spec.split_label (slice_get lines.now.splits line) (slice_get fits.now.splits line)) }
 {
     let Some(split) = lines.splits.get(line as usize) else {
-        return Ok(no_label(alloc));
+        return Ok(no_task(alloc));
     };
     let Some(said) = &split.task else {
-        return Ok(no_label(alloc));
+        return Ok(no_task(alloc));
     };
     match fits.splits.get(line as usize) {
         Some(fit) => task_label(alloc, said, fit),
-        None => Ok(no_label(alloc)),
+        None => Ok(no_task(alloc)),
     }
 }
 

@@ -12,7 +12,7 @@ use line_fits::Fits;
 use numbered_lines::Lines;
 use plan_model::Compiled;
 use std::alloc::Global;
-use tree_core::grow;
+use tree_core::{GrowError, grow};
 
 /// The tree of the plan with these lines, where these ground methods fit them.
 pub fn tree_of(alloc: Global, c: &Compiled, lines: &Lines, fits: &Fits) -> Result<PlanTree, Memory>
@@ -22,8 +22,10 @@ pub fn tree_of(alloc: Global, c: &Compiled, lines: &Lines, fits: &Fits) -> Resul
 {
     let seeds = seeds_of(alloc, c, lines, fits)?;
     let growths = growths_of(alloc, c, lines, fits, seeds.as_slice())?;
-    let Ok(run) = grow(alloc, growths) else {
-        return Err(Memory);
+    let run = match grow(alloc, growths) {
+        Ok(run) => run,
+        Err(GrowError::Memory) => return Err(Memory),
+        Err(GrowError::Unjoined { growth: _ }) => unreachable!(),
     };
     let order = run.order.as_slice();
     let actions = actions_of(alloc, seeds.as_slice(), order, lines.steps.len())?;

@@ -2,7 +2,7 @@ ghost use Rattle.std.specs.Prelude.{◌≡◌, ◌≤◌, ◌<◌, ◌+◌, ◌-
 ghost use Rattle.htn_base.specs.Limits.{most_steps, most_lines};
 ghost use Rattle.plan_texts.specs.SoundlyCompiled.{IsSoundlyCompiled};
 ghost use Rattle.plan_trees.specs.Sources as spec;
-ghost use Rattle.plan_trees.specs.Seeds.{AreSeedsOf};
+ghost use Rattle.plan_trees.specs.Seeds.{AreJoinedSeeds, AreSeedsOf};
 
 use crate::labels::fit_of;
 use crate::seed::{Seed, Source};
@@ -59,8 +59,8 @@ fn put(seeds: &mut List<Seed>, start: usize, parent: u32, source: Source) -> Res
     requires few { length seeds.old ≤ most_steps }
     ensures few { length seeds.new ≤ most_steps }
     ensures more { length seeds.old ≤ length seeds.new }
-    ensures put { OnOk result (length seeds.old < most_steps
-        → seeds.new ≡ seeds.old ++ spec.seeds parent (length seeds.old - start) (source ∷ [])) }
+    ensures put { OnOk result
+        (seeds.new ≡ spec.with_children seeds.old parent (length seeds.old - start) (source ∷ [])) }
 {
     if seeds.len() >= MOST_STEPS as usize {
         return Ok(());
@@ -84,8 +84,8 @@ fn put_lines(
     requires start { start ≤ length seeds.old }
     requires few { length seeds.old ≤ most_steps }
     ensures few { length seeds.new ≤ most_steps }
-    ensures put { OnOk result (length seeds.old + length places.now ≤ most_steps
-        → seeds.new ≡ seeds.old ++ spec.seeds parent (length seeds.old - start) (map (spec.source_at primitives) places.now)) }
+    ensures put { OnOk result (seeds.new
+        ≡ spec.with_children seeds.old parent (length seeds.old - start) (map (spec.source_at primitives) places.now)) }
 {
     for place in places {
         put(seeds, start, parent, source_at(primitives, *place))?;
@@ -104,8 +104,8 @@ fn put_task(
 ) -> Result<(), Memory>
     requires few { length seeds.old ≤ most_steps }
     ensures few { length seeds.new ≤ most_steps }
-    ensures put { OnOk result (length seeds.old + length (spec.sources_below c.now lines.now fits.now task) ≤ most_steps
-        → seeds.new ≡ seeds.old ++ spec.seeds parent 0 (spec.sources_below c.now lines.now fits.now task)) }
+    ensures put { OnOk result
+        (seeds.new ≡ spec.with_children seeds.old parent 0 (spec.sources_below c.now lines.now fits.now task)) }
 {
     let start = seeds.len();
     if is_checked(c, fits, task) {
@@ -125,8 +125,8 @@ fn put_below(
 ) -> Result<(), Memory>
     requires few { length seeds.old ≤ most_steps }
     ensures few { length seeds.new ≤ most_steps }
-    ensures put { OnOk result (length seeds.old + length (spec.all_below c.now lines.now fits.now source) ≤ most_steps
-        → seeds.new ≡ seeds.old ++ spec.seeds parent 0 (spec.all_below c.now lines.now fits.now source)) }
+    ensures put { OnOk result
+        (seeds.new ≡ spec.with_children seeds.old parent 0 (spec.all_below c.now lines.now fits.now source)) }
 {
     match source {
         Source::Task { line } => put_task(seeds, c, lines, fits, parent, line),
@@ -144,6 +144,7 @@ pub(crate) fn seeds_of(
     requires soundly { IsSoundlyCompiled c.now }
     requires lines { length lines.now.steps + length lines.now.splits ≤ most_lines }
     ensures few { IfOk result (λ seeds. length seeds ≤ most_steps) }
+    ensures joined { IfOk result (λ seeds. AreJoinedSeeds seeds (length seeds)) }
     ensures seeds { IfOk result (AreSeedsOf c.now lines.now fits.now) }
 {
     let mut seeds = List::new(alloc);

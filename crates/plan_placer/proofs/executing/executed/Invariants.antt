@@ -6,4 +6,5 @@ use Rattle.plan_placer.proofs.executing.executed.Given as goal
 
 -- the history has the states of the labels so far
 abbrev pub invariant-loop-place : goal.invariant-loop-place
-invariant-loop-place l = (labels : List (Label (network l.c))) → AreLabelsOf l.c l.steps labels → HasStates l.c (take l.place labels) l.history
+invariant-loop-place l = (labels : List (Label (network l.c))) → AreLabelsOf l.c l.steps labels
+    → HasStates l.c (take l.place labels) l.history

@@ -1,9 +1,10 @@
 use Rattle.std.proofs.Common.{◌∙◌, ap, sym, subst, length, map}
 use Rattle.tree_core.specs.Labels.{growths_of}
-use Rattle.tree_core.specs.Runs.{IsRun}
+use Rattle.tree_core.specs.Runs.{IsRun, IsRefused}
 use Rattle.plan_trees.specs.Sources.{growth}
 use Rattle.plan_trees.specs.Actions.{AreActions}
 use Rattle.plan_trees.specs.PlanTrees.{IsPlanTreeOf}
+use Rattle.plan_trees.proofs.Joined.{never_unjoined}
 use Rattle.plan_trees.proofs.Planted.{as_many_as, is_plan_tree}
 use Rattle.plan_trees.proofs.planting.tree_of.Goals as goal
 use Rattle.plan_trees.proofs.planting.tree_of.Goals.{In-Ok}
@@ -34,3 +35,11 @@ returns c = record {
       (is_plan_tree cv c.args.lines.now c.args.fits.now c.requires.soundly seeds c.in_ok-seeds.ensures.few c.in_ok-seeds.ensures.seeds run
       (run_is (goal.at.returns c).In-Ok) c.in_ok-actions.actions acts);
 }
+
+-- the growths are joined
+pub unreachable-requires : goal.unreachable-requires
+unreachable-requires c =
+    never_unjoined c.args.c.now c.args.lines.now c.args.fits.now c.in_ok-seeds.seeds c.in_ok-growths.growths c.in-Err-Unjoined.field-0-0
+    c.in_ok-seeds.ensures.joined
+    (c.in_ok-growths.ensures ∙ ap (map (growth c.args.c.now c.args.lines.now c.args.fits.now)) c.as_slice.ensures.items)
+    (subst (IsRefused (growths_of c.in_ok-growths.growths)) c.in-Err-Unjoined.field-0-is c.in-Err-Unjoined.ensures.unjoined)

@@ -1,6 +1,6 @@
-use Rattle.std.proofs.Common.{◌-◌, ◌++◌, ◌≡◌, [], ◌∷◌, length, subst, arith}
-use Rattle.plan_trees.specs.Sources.{seeds}
-use Rattle.plan_trees.proofs.SeedLists.{one_more_line, many_lines}
+use Rattle.std.proofs.Common.{◌-◌, ◌≡◌, [], ◌∷◌, length, subst, arith}
+use Rattle.plan_trees.specs.Sources.{with_children}
+use Rattle.plan_trees.proofs.SeedLists.{one_more_line}
 use Rattle.plan_trees.proofs.seeds.put_lines.Goals as goal
 
 pub loop-place-preserved : goal.loop-place-preserved
@@ -9,12 +9,8 @@ loop-place-preserved c =
     record {
       few = c.put.ensures.few;
       more = (let a = i.more in let b = c.put.ensures.more in omega arith);
-      put = λ l. (
-          let e = i.put (omega arith) in
-          let a = many_lines c.args.seeds.now c.loop-place.seeds c.args.parent (length c.args.seeds.now - c.args.start) c.args.primitives
-          c.args.places.now c.loop-place.place-index (let t = c.loop-place-test.true in omega arith) e in
-          one_more_line c.args.seeds.now c.loop-place.seeds c.put.new.seeds c.args.start c.args.parent c.args.primitives c.args.places.now
-          c.loop-place.place-index 0 c.requires.start c.loop-place-test.true e
-          (subst (λ z. c.put.new.seeds ≡ c.loop-place.seeds ++ seeds c.args.parent (length c.loop-place.seeds - c.args.start) (z ∷ []))
-          c.source_at.ensures (c.in_ok-put.ensures.put (omega arith))));
+      put = one_more_line c.args.seeds.now c.loop-place.seeds c.put.new.seeds c.args.start c.args.parent c.args.primitives c.args.places.now
+          c.loop-place.place-index 0 c.requires.start c.requires.few c.loop-place-test.true i.put
+          (subst (λ z. c.put.new.seeds ≡ with_children c.loop-place.seeds c.args.parent (length c.loop-place.seeds - c.args.start) (z ∷ []))
+          c.source_at.ensures c.in_ok-put.ensures.put);
     }
