@@ -41,7 +41,7 @@ place_told {A = A} P d (x ∷ xs) = go (d 0 x) (place_told (λ k. P (suc k)) (λ
     go (inr n) (inr m) = inr (λ h. neither n m h.0 h.1 h.2 h.3)
 
 -- lists
-lists_told : {A : Type 0} → AreTold A → AreTold (List A)
+pub lists_told : {A : Type 0} → AreTold A → AreTold (List A)
 lists_told d [] [] = inl refl
 lists_told d [] (y ∷ ys) = inr (λ e. cc)
 lists_told d (x ∷ xs) [] = inr (λ e. cc)
@@ -61,11 +61,11 @@ same_step s t = go (same_list s.name t.name) (lists_told same_list s.args t.args
     go (inl p) (inr n) = inr (λ e. n (ap (λ (z : GroundAction). z.args) e))
 
 -- all lists of n of these numbers
-lists_of : ℕ → List ℕ → List (List ℕ)
+pub lists_of : ℕ → List ℕ → List (List ℕ)
 lists_of zero xs = [] ∷ []
 lists_of (suc n) xs = spread (λ x. map (λ r. x ∷ r) (lists_of n xs)) xs
 
-to_lists : (xs ys : List ℕ) → ((x : ℕ) → Contains ys x → Contains xs x) → Contains (lists_of (length ys) xs) ys
+pub to_lists : (xs ys : List ℕ) → ((x : ℕ) → Contains ys x → Contains xs x) → Contains (lists_of (length ys) xs) ys
 unfolding lists_of
 to_lists xs [] h = Contains-here [] []
 to_lists xs (y ∷ ys) h = to_spread (λ x. map (λ r. x ∷ r) (lists_of (length ys) xs)) xs y (y ∷ ys) (h y (Contains-here y ys))

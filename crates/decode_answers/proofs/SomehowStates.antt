@@ -59,7 +59,7 @@ module _ (c : Compiled) where
   in_told : (o t : ℕ) → Or_not (InTypeOf c o t)
   in_told o t = elim (in_type_decided c.hddl.types c.hddl.objects o t) [ yes p ↦ inl p | no n ↦ inr n ]
 
-  few : (o t : ℕ) → InTypeOf c o t → o < length c.hddl.objects
+  pub few : (o t : ℕ) → InTypeOf c o t → o < length c.hddl.objects
   few o t i = slice_get_within c.hddl.objects o i.0 i.1
 
   typed : (ps : List Param) (os : List ℕ) → Or_not (AreTyped (InTypeOf c) ps os)

@@ -9,3 +9,8 @@ pub mod AlikeFits
 pub mod AlikeChoices
 pub mod AlikePlaced
 pub mod Alike
+pub mod SomehowLines
+pub mod SomehowFirst
+pub mod SomehowStanding
+pub mod SomehowPlaced
+pub mod Somehow

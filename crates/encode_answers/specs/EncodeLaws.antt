@@ -1,6 +1,7 @@
 -- That a hierarchical plan comes to one thing alone, whichever value of two texts is taken.
 -- Source: this project's.
-use Rattle.std.specs.Prelude.{ℕ, ◌≡◌, ◌↔◌, List, Option}
+use Rattle.std.specs.Prelude.{ℕ, ◌≡◌, ◌↔◌, ◌<◌, ◌≤◌, ◌-◌, ◌^◌, List, Option, IfSome}
+use Rattle.htn_base.specs.Limits.{most_slots}
 use Rattle.plan_model.specs.declared.options.Checks.{Checks}
 use Rattle.plan_model.specs.declared.steps.GroundAction.{GroundAction}
 use Rattle.plan_model.specs.declared.values.Hddl.{Hddl}
@@ -8,7 +9,7 @@ use Rattle.plan_model.specs.declared.values.Compiled.{Compiled}
 use Rattle.plan_model.specs.plan_meaning.Compilation.{IsCompiled}
 use Rattle.plan_texts.specs.FirstSeen.{IsHddlOf}
 use Rattle.hplan_text.specs.declared.values.HPlan.{HPlan}
-use Rattle.hplan_text.specs.Printable.{IsSoundHPlan}
+use Rattle.hplan_text.specs.Printable.{IsSoundHPlan, IsPrintableHPlan}
 use Rattle.plan_encoder.specs.Laws.{IsOf, SomeSolutionShows}
 use Rattle.placements.specs.Matching.{IsUnmatched}
 use Rattle.placements.specs.Placement.{IsNotExecutable, MissesGoal, HasNoPlace}
@@ -20,6 +21,12 @@ abbrev pub EachIsEncodedOnce : Type 0
 EachIsEncodedOnce = (h : Hddl) (mode : Checks) (c : Compiled) → IsOf h mode c → (plan : HPlan) → IsSoundHPlan plan
     → (given : Option ℕ) (most : ℕ) (one other : StepText) → IsStepText c plan given most one → IsStepText c plan given most other
     → one ≡ other
+
+-- and to one, where a given number of slots is one that may be asked for, and the limit is less than the greatest length that is counted
+abbrev pub EachIsEncodedSomehow : Type 0
+EachIsEncodedSomehow = (h : Hddl) (mode : Checks) (c : Compiled) → IsOf h mode c → (plan : HPlan) → IsSoundHPlan plan
+    → IsPrintableHPlan plan → (given : Option ℕ) (most : ℕ) → most < 2 ^ 64 - 1 → IfSome given (λ n. n ≤ most_slots)
+    → (text : StepText) × IsStepText c plan given most text
 
 -- what a plan comes to is the same of two compiled problems
 pub record AreEncodedAlike (c k : Compiled) (plan : HPlan) : Type 0 where

@@ -1,10 +1,15 @@
 //! The laws, each the contract of a function that does nothing.
 
-ghost use Rattle.encode_answers.specs.EncodeLaws.{EachIsEncodedOnce, ValuesAreEncodedAlike};
+ghost use Rattle.encode_answers.specs.EncodeLaws.{EachIsEncodedOnce, EachIsEncodedSomehow, ValuesAreEncodedAlike};
 
 /// A plan comes to one text, to its length, or to one sentence that says why there is none.
 pub fn each_is_encoded_once()
     ensures { EachIsEncodedOnce }
+{}
+
+/// And it comes to one of these.
+pub fn each_is_encoded_somehow()
+    ensures { EachIsEncodedSomehow }
 {}
 
 /// A hierarchical plan comes to the same over the values of two texts.

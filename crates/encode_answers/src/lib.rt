@@ -7,4 +7,4 @@
 
 mod laws;
 
-pub use laws::{each_is_encoded_once, values_are_encoded_alike};
+pub use laws::{each_is_encoded_once, each_is_encoded_somehow, values_are_encoded_alike};
