@@ -79,7 +79,7 @@ module _ (c d : Compiled) (t : AreTwins c d) where
       tree other s order (initial c) (initial d) alike.first (renaming c d t) (top_work c) (top_work d) alike.top (IsGoal c) (IsGoal d)
       (λ S S' h. (alike.goal S S' h).0) x
 
-  some_solution_to : (plan : HPlan) → SomeSolutionShows c plan → SomeSolutionShows d plan
+  pub some_solution_to : (plan : HPlan) → SomeSolutionShows c plan → SomeSolutionShows d plan
   some_solution_to plan (tree, order, x, shows) =
       let (other, s) = other_one tree in (other, order, solution_to tree other s order x, shows_ids_to c d t tree other s plan order shows)
 

@@ -1,6 +1,6 @@
 -- That a hierarchical plan comes to one thing alone, whichever value of two texts is taken.
 -- Source: this project's.
-use Rattle.std.specs.Prelude.{ℕ, ◌≡◌, ◌<◌, ◌≤◌, ◌-◌, ◌^◌, List, Option, IfSome}
+use Rattle.std.specs.Prelude.{ℕ, ◌≡◌, ◌↔◌, ◌<◌, ◌≤◌, ◌-◌, ◌^◌, List, Option, IfSome}
 use Rattle.htn_base.specs.Limits.{most_slots}
 use Rattle.plan_model.specs.declared.options.Checks.{Checks}
 use Rattle.plan_model.specs.declared.steps.GroundAction.{GroundAction}
@@ -10,7 +10,7 @@ use Rattle.plan_model.specs.plan_meaning.Compilation.{IsCompiled}
 use Rattle.plan_texts.specs.FirstSeen.{IsHddlOf}
 use Rattle.hplan_text.specs.declared.values.HPlan.{HPlan}
 use Rattle.hplan_text.specs.Printable.{IsSoundHPlan, IsPrintableHPlan}
-use Rattle.plan_encoder.specs.Laws.{IsOf}
+use Rattle.plan_encoder.specs.Laws.{IsOf, SomeSolutionShows}
 use Rattle.placements.specs.Matching.{IsUnmatched}
 use Rattle.placements.specs.Placement.{IsNotExecutable, MissesGoal, HasNoPlace}
 use Rattle.step_texts.specs.declared.text.StepText.{StepText}
@@ -34,6 +34,7 @@ pub record AreEncodedAlike (c k : Compiled) (plan : HPlan) : Type 0 where
   pub not_executable : (id : ℕ) → IsNotExecutable c plan id → IsNotExecutable k plan id
   pub misses : MissesGoal c plan → MissesGoal k plan
   pub no_place : HasNoPlace c plan → HasNoPlace k plan
+  pub shown : SomeSolutionShows c plan ↔ SomeSolutionShows k plan
   pub width : (width : ℕ) → HasWidth c plan width → HasWidth k plan width
   pub spelled : (slots width : ℕ) (steps : List GroundAction) → IsSpelled c plan slots width steps → IsSpelled k plan slots width steps
 

@@ -19,6 +19,7 @@ use Rattle.plan_proof.proofs.texts.SamePlans.{spelled-plans}
 use Rattle.plan_proof.proofs.values.Headlines.{headline_of, headline_at_bound_of}
 use Rattle.plan_proof.proofs.machine.Bounds.{loses_nothing}
 use Rattle.decode_answers.specs.DecodeLaws.{ValuesAreDecodedAlike}
+use Rattle.encode_answers.specs.EncodeLaws.{ValuesAreEncodedAlike}
 use Rattle.command_words.specs.Names.{Word}
 use Rattle.command_words.specs.Words.{TranslationRequest, BoundRequest, Request, to_translate, to_bound, to_decode, to_encode, to_validate, Asks}
 use Rattle.htn_cli.specs.Answer.{Output, Answer, refuses, gives}
@@ -132,17 +133,17 @@ module _ (pd pp plan : List ℕ) where
         );
   }
 
--- What was found of the texts of a request, where the values of two texts are decoded alike.
-pub finding_here : (alike : ValuesAreDecodedAlike) (request : Request) (texts : List (List ℕ)) (f : Finding) → Refuses request texts (refused.Finding f) → (err err' : SinkState) → Told (line_of (refused.Finding f)) err err' → TellsFinding request texts err err'
-finding_here alike (to_translate r) (d ∷ p ∷ []) (finding.NotTailRecursive words) (none, (c, source, named)) err err' line = cycle_of_each d p r.checks c source words named err err' line
-finding_here alike (to_bound r) (d ∷ p ∷ []) (finding.NotTailRecursive words) (c, source, named) err err' line = cycle_of_each d p r.checks c source words named err err' line
-finding_here alike (to_decode r) (d ∷ p ∷ plan ∷ []) (finding.NotTailRecursive words) (none, (c, steps, spelled, named)) err err' line =
+-- What was found of the texts of a request, where the values of two texts are decoded and encoded alike.
+pub finding_here : (alike : ValuesAreDecodedAlike) (encoded : ValuesAreEncodedAlike) (request : Request) (texts : List (List ℕ)) (f : Finding) → Refuses request texts (refused.Finding f) → (err err' : SinkState) → Told (line_of (refused.Finding f)) err err' → TellsFinding request texts err err'
+finding_here alike encoded (to_translate r) (d ∷ p ∷ []) (finding.NotTailRecursive words) (none, (c, source, named)) err err' line = cycle_of_each d p r.checks c source words named err err' line
+finding_here alike encoded (to_bound r) (d ∷ p ∷ []) (finding.NotTailRecursive words) (c, source, named) err err' line = cycle_of_each d p r.checks c source words named err err' line
+finding_here alike encoded (to_decode r) (d ∷ p ∷ plan ∷ []) (finding.NotTailRecursive words) (none, (c, steps, spelled, named)) err err' line =
     inl (none, cycle_of_each d p r.checks c spelled.spelled.problem_is words named err err' line)
-finding_here alike (to_decode r) (d ∷ p ∷ plan ∷ []) (finding.SpellsNoSolution step why) (c, steps, slots, is, fails) err err' line =
+finding_here alike encoded (to_decode r) (d ∷ p ∷ plan ∷ []) (finding.SpellsNoSolution step why) (c, steps, slots, is, fails) err err' line =
     inr (none_here alike r d p plan c steps slots is step why fails err err' line)
-finding_here alike (to_encode r) (d ∷ p ∷ hplan ∷ []) f (c, plan, s, is) err err' line = no_steps_here r d p hplan c plan s.spelled f is err err' line
-finding_here alike (to_validate r) (pd ∷ pp ∷ plan ∷ []) (finding.NotAPlan step why) x err err' line = failure_here pd pp plan step why err err' line x
-finding_here alike _ _ f x err err' line = absurd x
+finding_here alike encoded (to_encode r) (d ∷ p ∷ hplan ∷ []) f (c, plan, s, is) err err' line = no_steps_here encoded r d p hplan c plan s.spelled f is err err' line
+finding_here alike encoded (to_validate r) (pd ∷ pp ∷ plan ∷ []) (finding.NotAPlan step why) x err err' line = failure_here pd pp plan step why err err' line x
+finding_here alike encoded _ _ f x err err' line = absurd x
 
 -- An output comes from all texts, which are given; and a finding from all texts, which are declined.
 abbrev Come : Request → List (List ℕ) → Answer → Type 0
@@ -247,27 +248,27 @@ module _ (words : List Word) (files files' : FilesState) (out out' : SinkState) 
           let line : TakesWhole text out out' = subst (λ (z : Output). TakesWhole z.told out out') e a.stands.1 in
           tree_here alike r d p plan c steps slots is text has out out' line
 
-  pub steps_done : ValuesAreDecodedAlike → HasSteps words files out out'
-  steps_done alike r d p hplan asked read =
+  pub steps_done : ValuesAreDecodedAlike → ValuesAreEncodedAlike → HasSteps words files out out'
+  steps_done alike encoded r d p hplan asked read =
       go (achieved (to_encode r) asked (d ∷ p ∷ hplan ∷ []) read) (gives_here (to_encode r) asked (d ∷ p ∷ hplan ∷ []) read)
     where
       go : (a : Achieves files files' out out' (to_encode r)) → GivesSteps r d p hplan a.output → TellsSteps r d p hplan out out'
       go a (c, plan, text, s, (width, steps, is, t), e) =
           let told : TakesWhole text out out' = subst (λ (z : Output). TakesWhole z.told out out') e a.stands.1 in
-          steps_here r d p hplan c plan s.spelled alike width steps is out out' (subst (λ z. TakesWhole z out out') t told)
+          steps_here encoded r d p hplan c plan s.spelled alike width steps is out out' (subst (λ z. TakesWhole z out out') t told)
 
 -- a finding that was told, and no other refusal has this status
-pub finding_refused : (alike : ValuesAreDecodedAlike) (words : List Word) (files files' : FilesState) (out out' : SinkState) (refusal : Refusal) → IsRefused words files files' out out' refusal → status_of refusal ≡ status.Finding → (err err' : SinkState) → Told (line_of refusal) err err'
+pub finding_refused : (alike : ValuesAreDecodedAlike) (encoded : ValuesAreEncodedAlike) (words : List Word) (files files' : FilesState) (out out' : SinkState) (refusal : Refusal) → IsRefused words files files' out out' refusal → status_of refusal ≡ status.Finding → (err err' : SinkState) → Told (line_of refusal) err err'
     → HasFinding words files err err'
-finding_refused alike words files files' out out' (refused.Finding f) left e err err' line request texts asked told =
+finding_refused alike encoded words files files' out out' (refused.Finding f) left e err err' line request texts asked told =
     let left_here = asked_left words files files' out out' request (refused.Finding f) asked left in
     let is = left_here.0 in
     let x = come request is.texts (refuses (refused.Finding f)) is.answers in
-    finding_here alike request texts f (subst (λ z. Refuses request z (refused.Finding f)) (same_texts files (inputs_of request) is.texts texts is.got x.0 told) x.1) err err' line
-finding_refused alike words files files' out out' refused.Words left e err err' line request texts asked told = absurd (cc)
-finding_refused alike words files files' out out' (refused.Fault place code) left e err err' line request texts asked told = absurd (cc)
-finding_refused alike words files files' out out' (refused.Limit l) left e err err' line request texts asked told = absurd (cc)
-finding_refused alike words files files' out out' (refused.Failure (failure.Reading name)) left e err err' line request texts asked told = absurd (cc)
-finding_refused alike words files files' out out' (refused.Failure (failure.Writing name)) left e err err' line request texts asked told = absurd (cc)
-finding_refused alike words files files' out out' (refused.Failure failure.Telling) left e err err' line request texts asked told = absurd (cc)
-finding_refused alike words files files' out out' (refused.Failure failure.Memory) left e err err' line request texts asked told = absurd (cc)
+    finding_here alike encoded request texts f (subst (λ z. Refuses request z (refused.Finding f)) (same_texts files (inputs_of request) is.texts texts is.got x.0 told) x.1) err err' line
+finding_refused alike encoded words files files' out out' refused.Words left e err err' line request texts asked told = absurd (cc)
+finding_refused alike encoded words files files' out out' (refused.Fault place code) left e err err' line request texts asked told = absurd (cc)
+finding_refused alike encoded words files files' out out' (refused.Limit l) left e err err' line request texts asked told = absurd (cc)
+finding_refused alike encoded words files files' out out' (refused.Failure (failure.Reading name)) left e err err' line request texts asked told = absurd (cc)
+finding_refused alike encoded words files files' out out' (refused.Failure (failure.Writing name)) left e err err' line request texts asked told = absurd (cc)
+finding_refused alike encoded words files files' out out' (refused.Failure failure.Telling) left e err err' line request texts asked told = absurd (cc)
+finding_refused alike encoded words files files' out out' (refused.Failure failure.Memory) left e err err' line request texts asked told = absurd (cc)

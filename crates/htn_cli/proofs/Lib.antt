@@ -25,6 +25,7 @@ pub mod OneTranslation
 pub mod OneBound
 pub mod OneValidation
 pub mod OneDecoding
+pub mod OneEncoding
 pub mod OneAnswers
 pub mod StepsTaken
 pub mod TruthTold

@@ -1,31 +1,29 @@
 -- Words have one answer at most.
-use Rattle.std.proofs.Common.{ℕ, ◌≡◌, ◌≤◌, ◌++◌, List, [], ◌∷◌, length, Option, Some, IfSome, codes, refl, sym, ap, ◌∙◌, subst, inl, inr, arith}
+use Rattle.std.proofs.Common.{ℕ, ◌≡◌, ◌≤◌, ◌++◌, List, [], ◌∷◌, length, Option, Some, IfSome, codes, refl, sym, ◌∙◌, subst, inl, inr, arith}
 use Rattle.htn_base.specs.Limits.{longest_output, most_slots}
 use Rattle.outside_io.specs.Files.{FilesState}
 use Rattle.command_words.specs.Names.{Word}
-use Rattle.command_words.specs.Words.{TranslationRequest, BoundRequest, DecodeRequest, ValidationRequest, Request, to_translate, to_bound, to_decode, to_encode, to_validate}
+use Rattle.command_words.specs.Words.{TranslationRequest, BoundRequest, DecodeRequest, EncodeRequest, ValidationRequest, Request, to_translate, to_bound, to_decode, to_encode, to_validate}
 use Rattle.command_words.proofs.Requests.{one_request}
 use Rattle.decode_answers.specs.DecodeLaws.{EachIsDecodedOnce, ValuesAreDecodedAlike}
+use Rattle.encode_answers.specs.EncodeLaws.{EachIsEncodedOnce, ValuesAreEncodedAlike}
 use Rattle.htn_cli.specs.Answer.{Output, Answer, refuses, gives}
 use Rattle.htn_cli.specs.Answers.{Refuses, Gives, RefusesFault, RefusesSize, IsAnswerFor, past_slots, too_large, faulty, declined, given, IsAnswer, IsAnswerTo}
-use Rattle.htn_cli.specs.Ending.{status_by, line_by}
 use Rattle.htn_cli.specs.Inputs.{AreWhole}
-use Rattle.htn_cli.specs.OneAnswer.{output_by, AreTold, TellTheSame, EachHasOneAnswer}
-use Rattle.htn_cli.specs.Requests.{inputs_of, slots_given, IsWithin, IsNoEncoding, AskForNoEncoding}
+use Rattle.htn_cli.specs.OneAnswer.{AreTold, TellTheSame, EachHasOneAnswer}
+use Rattle.htn_cli.specs.Requests.{inputs_of, slots_given, IsWithin}
 use Rattle.htn_cli.specs.Slots.{RefusesSlots}
 use Rattle.htn_cli.specs.declared.refusal.Limit.TheVariants as limit
 use Rattle.htn_cli.specs.declared.refusal.Refusal.{Refusal}
 use Rattle.htn_cli.specs.declared.refusal.Refusal.TheVariants as refused
 use Rattle.htn_cli.proofs.OneBound.{BoundComes, one_bounded}
 use Rattle.htn_cli.proofs.OneDecoding.{DecodeComes, one_decoded}
+use Rattle.htn_cli.proofs.OneEncoding.{EncodeComes, same_answer, one_encoded}
 use Rattle.htn_cli.proofs.OneFault.{one_fault, fault_not_declined, fault_not_given}
 use Rattle.htn_cli.proofs.OneInput.{Agree, agree, whole_same, large_not_whole, one_large}
 use Rattle.htn_cli.proofs.OneSlots.{past_few, one_past}
 use Rattle.htn_cli.proofs.OneTranslation.{TranslationComes, one_translated}
 use Rattle.htn_cli.proofs.OneValidation.{PlanComes, one_validated}
-
-same_answer : (one other : Answer) → one ≡ other → TellTheSame one other
-same_answer one other e = record { status = ap status_by e; line = ap line_by e; output = ap output_by e }
 
 -- what follows from texts without a fault: what is told has a limit
 abbrev Comes : Request → List (List ℕ) → Answer → Type 0
@@ -43,6 +41,10 @@ bound_comes r d p (gives output) is = is.0
 decode_comes : (r : DecodeRequest) (d p l : List ℕ) (a : Answer) → Comes (to_decode r) (d ∷ p ∷ l ∷ []) a → DecodeComes r d p l a
 decode_comes r d p l (refuses refusal) is = is
 decode_comes r d p l (gives output) is = is
+
+encode_comes : (r : EncodeRequest) (d p l : List ℕ) (a : Answer) → Comes (to_encode r) (d ∷ p ∷ l ∷ []) a → EncodeComes r d p l a
+encode_comes r d p l (refuses refusal) is = is
+encode_comes r d p l (gives output) is = is
 
 plan_comes : (r : ValidationRequest) (d p l : List ℕ) (a : Answer) → Comes (to_validate r) (d ∷ p ∷ l ∷ []) a → PlanComes d p l a
 plan_comes r d p l (refuses refusal) is = is
@@ -90,16 +92,16 @@ not_both : (request : Request) (texts : List (List ℕ)) (f : Refusal) (a : Answ
 not_both request texts f (refuses refusal) x y = fault_not_declined request texts f refusal x y
 not_both request texts f (gives output) x y = fault_not_given request texts f output x y.0
 
-module _ (once : EachIsDecodedOnce) (alike : ValuesAreDecodedAlike) where
-  one_comes : (request : Request) → IsNoEncoding request → (texts : List (List ℕ)) (a b : Answer) → Comes request texts a → Comes request texts b → TellTheSame a b
-  one_comes (to_translate r) other (d ∷ p ∷ []) a b is also = one_translated r d p a b (translation_comes r d p a is) (translation_comes r d p b also)
-  one_comes (to_bound r) other (d ∷ p ∷ []) a b is also = one_bounded r d p a b (bound_comes r d p a is) (bound_comes r d p b also)
-  one_comes (to_decode r) other (d ∷ p ∷ l ∷ []) a b is also = one_decoded once alike r d p l a b (decode_comes r d p l a is) (decode_comes r d p l b also)
-  one_comes (to_encode r) other texts a b is also = absurd other
-  one_comes (to_validate r) other (d ∷ p ∷ l ∷ []) a b is also = one_validated d p l a b (plan_comes r d p l a is) (plan_comes r d p l b also)
-  one_comes request other texts a b is also = absurd (nothing_comes request texts (λ refusal x. x) (λ output x. x) a is)
+module _ (once : EachIsDecodedOnce) (alike : ValuesAreDecodedAlike) (encoded_once : EachIsEncodedOnce) (encoded_alike : ValuesAreEncodedAlike) where
+  one_comes : (request : Request) (texts : List (List ℕ)) (a b : Answer) → Comes request texts a → Comes request texts b → TellTheSame a b
+  one_comes (to_translate r) (d ∷ p ∷ []) a b is also = one_translated r d p a b (translation_comes r d p a is) (translation_comes r d p b also)
+  one_comes (to_bound r) (d ∷ p ∷ []) a b is also = one_bounded r d p a b (bound_comes r d p a is) (bound_comes r d p b also)
+  one_comes (to_decode r) (d ∷ p ∷ l ∷ []) a b is also = one_decoded once alike r d p l a b (decode_comes r d p l a is) (decode_comes r d p l b also)
+  one_comes (to_encode r) (d ∷ p ∷ l ∷ []) a b is also = one_encoded encoded_once encoded_alike r d p l a b (encode_comes r d p l a is) (encode_comes r d p l b also)
+  one_comes (to_validate r) (d ∷ p ∷ l ∷ []) a b is also = one_validated d p l a b (plan_comes r d p l a is) (plan_comes r d p l b also)
+  one_comes request texts a b is also = absurd (nothing_comes request texts (λ refusal x. x) (λ output x. x) a is)
 
-  module _ (request : Request) (other : IsNoEncoding request) (texts others : List (List ℕ)) (e : Agree texts others) (f : Agree others texts) where
+  module _ (request : Request) (texts others : List (List ℕ)) (e : Agree texts others) (f : Agree others texts) where
     moved : (P : List (List ℕ) → Type 0) → AreWhole (inputs_of request) texts → AreWhole (inputs_of request) others → P others → P texts
     moved P whole also x = subst P (sym (whole_same (inputs_of request) texts others whole also e)) x
 
@@ -119,21 +121,21 @@ module _ (once : EachIsDecodedOnce) (alike : ValuesAreDecodedAlike) where
     same_stage a b (come r inside whole x) (before n q g past) = absurd (not_inside request n q g past inside)
     same_stage a b (come r inside whole x) (large q within y) = absurd (large_word request others q y texts whole f)
     same_stage a b (come r inside whole x) (fault q within also y) = absurd (not_both request texts q r (moved (λ z. RefusesFault request z q) whole also y) x)
-    same_stage a b (come r inside whole x) (come q within also y) = one_comes request other texts r q x (moved (λ z. Comes request z q) whole also y)
+    same_stage a b (come r inside whole x) (come q within also y) = one_comes request texts r q x (moved (λ z. Comes request z q) whole also y)
 
-  one_by : (request : Request) → IsNoEncoding request → (files : FilesState) → AreTold files → (one other : Answer) → IsAnswer request files one → IsAnswer request files other → TellTheSame one other
-  one_by request free files told one other is also =
-      same_stage request free is.texts also.texts
+  one_by : (request : Request) (files : FilesState) → AreTold files → (one other : Answer) → IsAnswer request files one → IsAnswer request files other → TellTheSame one other
+  one_by request files told one other is also =
+      same_stage request is.texts also.texts
       (agree files told (inputs_of request) is.texts also.texts is.got also.got)
       (agree files told (inputs_of request) also.texts is.texts also.got is.got)
       one other (stage request is.texts one is.answers) (stage request also.texts other also.answers)
 
-  one_to : (words : List Word) (files : FilesState) → AskForNoEncoding words → AreTold files → (one other : Answer) → IsAnswerTo words files one → IsAnswerTo words files other → TellTheSame one other
-  one_to words files free told one other (inl (formless, is)) (inl (also, are)) = same_answer one other (is ∙ sym are)
-  one_to words files free told one other (inl (formless, is)) (inr (request, asked, are)) = absurd (formless (request, asked))
-  one_to words files free told one other (inr (request, asked, is)) (inl (formless, are)) = absurd (formless (request, asked))
-  one_to words files free told one other (inr (request, asked, is)) (inr (again, also, are)) =
-      one_by request (free request asked) files told one other is (subst (λ r. IsAnswer r files other) (one_request words again request also asked) are)
+  one_to : (words : List Word) (files : FilesState) → AreTold files → (one other : Answer) → IsAnswerTo words files one → IsAnswerTo words files other → TellTheSame one other
+  one_to words files told one other (inl (formless, is)) (inl (also, are)) = same_answer one other (is ∙ sym are)
+  one_to words files told one other (inl (formless, is)) (inr (request, asked, are)) = absurd (formless (request, asked))
+  one_to words files told one other (inr (request, asked, is)) (inl (formless, are)) = absurd (formless (request, asked))
+  one_to words files told one other (inr (request, asked, is)) (inr (again, also, are)) =
+      one_by request files told one other is (subst (λ r. IsAnswer r files other) (one_request words again request also asked) are)
 
   pub each_has_one_answer : EachHasOneAnswer
   each_has_one_answer = one_to

@@ -27,13 +27,13 @@ use Rattle.placements.proofs.PlacedPlans.{placed_are_solutions}
 use Rattle.placements.proofs.RefusedPlans.{refused_are_shown_by_none}
 use Rattle.step_texts.specs.StepTexts.{IsSpelled, slots_for, steps_text}
 use Rattle.decode_answers.specs.DecodeLaws.{IsDecodable, ValuesAreDecodedAlike}
+use Rattle.encode_answers.specs.EncodeLaws.{AreEncodedAlike, ValuesAreEncodedAlike}
 use Rattle.command_words.specs.Words.{EncodeRequest}
 use Rattle.htn_cli.specs.Encoding.{IsFound, slots_of, SpellHPlan}
 use Rattle.htn_cli.specs.Problem.{SpellProblem}
 use Rattle.htn_cli.specs.Refusal.{line_of}
 use Rattle.htn_cli.specs.Sent.{TakesWhole, Told}
-use Rattle.htn_cli.specs.promise.Problems.{ForSome}
-use Rattle.htn_cli.specs.promise.Steps.{SaysWhy, TellsSteps, TellsNoSteps}
+use Rattle.htn_cli.specs.promise.Steps.{TellsSteps, TellsNoSteps}
 use Rattle.htn_cli.specs.declared.refusal.Finding.{Finding}
 use Rattle.htn_cli.specs.declared.refusal.Finding.TheVariants as finding
 use Rattle.htn_cli.specs.declared.refusal.Refusal.TheVariants as refused
@@ -53,15 +53,24 @@ module _ (N : Net) (tree : Tree N) where
   some_width : (width : ℕ) (order : List Address) → IsWidth N width tree order → 1 ≤ width
   some_width width order is = is.within [] order ([] ∷ []) refl first_pending
 
-module _ (request : EncodeRequest) (d p hplan : List ℕ) (c : Compiled) (plan : HPlan) (spelled : SpellHPlan request d p hplan c plan) where
+module _ (encoded : ValuesAreEncodedAlike) (request : EncodeRequest) (d p hplan : List ℕ) (c : Compiled) (plan : HPlan) (spelled : SpellHPlan request d p hplan c plan) where
   abbrev source : SpellProblem d p request.checks c
   source = spelled.problem_is
 
-  here : (Is : Compiled → Type 0) → Is c → ForSome d p request.checks Is
-  here Is is = (source.value, c, source.read.spelled, source.compiled_is, is)
-
   of : IsOf source.value request.checks c
   of = record { sound = source.read.sound; ordered = source.read.ordered; compiled = source.compiled_is }
+
+  -- the plan comes to the same over each value of the two texts
+  each : (h : Hddl) (k : Compiled) → IsHddlOf d p h → IsCompiled h request.checks k → AreEncodedAlike c k plan
+  each h k s compiled = encoded d p source.value h request.checks c k plan source.read.spelled s of compiled
+
+  found_there : (k : Compiled) → AreEncodedAlike c k plan → (f : Finding) → IsFound c plan (slots_of request) f → IsFound k plan (slots_of request) f
+  found_there k same (finding.NoMatch id) is = same.unmatched id is
+  found_there k same (finding.NotExecutable id) is = same.not_executable id is
+  found_there k same finding.GoalFalse is = same.misses is
+  found_there k same finding.NoPlacement is = same.no_place is
+  found_there k same (finding.NeedsBound width) (wide, needs) = (same.width width wide, needs)
+  found_there k same _ is = absurd is
 
   -- no solution shows a plan that is refused by a sentence
   not_shown : IsRefused c plan → SomeSolutionShows c plan → ⊥
@@ -78,7 +87,16 @@ module _ (request : EncodeRequest) (d p hplan : List ℕ) (c : Compiled) (plan :
   -- a plan that was said to have no steps
   pub no_steps_here : (f : Finding) → IsFound c plan (slots_of request) f → (err err' : SinkState) → Told (line_of (refused.Finding f)) err err' → TellsNoSteps request d p hplan err err'
   no_steps_here f is err err' told =
-      record { plan = plan; read = spelled.read; found = f; told = told; says = here (SaysWhy (slots_of request) plan f) (record { sentence = is; none = none_shown f is }) }
+      record {
+        plan = plan;
+        read = spelled.read;
+        found = f;
+        told = told;
+        says = λ h k s compiled. (
+            let same = each h k s compiled in
+            record { sentence = found_there k same f is; none = λ wide x. none_shown f is wide (same.shown.1 x) }
+            );
+      }
 
   module _ (alike : ValuesAreDecodedAlike) (width : ℕ) (steps : List GroundAction) (is : IsSpelled c plan (slots_for (slots_of request) width) width steps) where
     abbrev slots : ℕ
@@ -118,7 +136,7 @@ module _ (request : EncodeRequest) (d p hplan : List ℕ) (c : Compiled) (plan :
       slots = slots;
       slots_are = refl;
       told = told;
-      latest = here (λ c. IsSpelled c plan slots width steps) is;
+      latest = λ h k s compiled. (each h k s compiled).spelled slots width steps is;
       shown = once.plan;
       shows = each_shown;
       new = placed.1.0;

@@ -8,7 +8,6 @@ use Rattle.command_words.specs.Names.{Word}
 use Rattle.htn_cli.specs.Answer.{Output, Answer, refuses, gives}
 use Rattle.htn_cli.specs.Answers.{IsAnswerTo}
 use Rattle.htn_cli.specs.Ending.{status_by, line_by}
-use Rattle.htn_cli.specs.Requests.{AskForNoEncoding}
 
 -- the output of an answer: none, where it is a refusal
 abbrev pub output_by : Answer → Option Output
@@ -27,7 +26,6 @@ AreTold files = (folder : Folder) × (files.held ≡ Some folder)
 abbrev pub HasOneAnswer : List Word → FilesState → Type 0
 HasOneAnswer words files = (one other : Answer) → IsAnswerTo words files one → IsAnswerTo words files other → TellTheSame one other
 
--- All words that ask for no encoding have one answer at most, over all files that tell what they hold. That an encoding has one is not
--- said: it needs that a plan has one latest schedule with one choice of values.
+-- All words have one answer at most, over all files that tell what they hold.
 abbrev pub EachHasOneAnswer : Type 0
-EachHasOneAnswer = (words : List Word) (files : FilesState) → AskForNoEncoding words → AreTold files → HasOneAnswer words files
+EachHasOneAnswer = (words : List Word) (files : FilesState) → AreTold files → HasOneAnswer words files

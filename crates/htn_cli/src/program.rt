@@ -32,6 +32,7 @@ use crate::translation::translation;
 use crate::validation::validation;
 use command_words::{Asked, asked};
 use decode_answers::values_are_decoded_alike;
+use encode_answers::values_are_encoded_alike;
 use outside_io::{Files, Sink};
 use std::alloc::Global;
 
@@ -111,8 +112,9 @@ pub fn run<F: Files, O: Sink, E: Sink>(
     ensures failed_write { (O.state out.old).faults < (O.state out.new).faults →
         result ≡ Status.WriteFault }
 {
-    // a law, which does nothing
+    // laws, which do nothing
     values_are_decoded_alike();
+    values_are_encoded_alike();
     match act(alloc, words, files, out) {
         Ok(()) => Status::Done,
         Err(refusal) => {
@@ -139,8 +141,9 @@ fn act<'a, F: Files, O: Sink>(
     ensures stopped { IfErr result (CallsBefore (words_of words.now)
         (CallsAre (F.passed files.old) (F.passed files.new))) }
 {
-    // a law, which does nothing
+    // laws, which do nothing
     values_are_decoded_alike();
+    values_are_encoded_alike();
     match asked(words) {
         None => Err(Refusal::Words),
         Some(asked) => perform(alloc, &asked, files, out),

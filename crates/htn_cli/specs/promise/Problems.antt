@@ -10,7 +10,3 @@ use Rattle.plan_texts.specs.FirstSeen.{IsHddlOf}
 -- for each problem that two HDDL texts spell, with its compiled value
 abbrev pub ForEach : (d p : List ℕ) → Checks → (Hddl → Compiled → Type 0) → Type 0
 ForEach d p checks Is = (h : Hddl) (c : Compiled) → IsHddlOf d p h → IsCompiled h checks c → Is h c
-
--- for a problem that they spell
-abbrev pub ForSome : (d p : List ℕ) → Checks → (Compiled → Type 0) → Type 0
-ForSome d p checks Is = (h : Hddl) × (c : Compiled) × IsHddlOf d p h × IsCompiled h checks c × Is c

@@ -27,7 +27,7 @@ use Rattle.htn_cli.specs.Sent.{TakesWhole, Told}
 use Rattle.htn_cli.specs.declared.refusal.Finding.{Finding}
 use Rattle.htn_cli.specs.declared.refusal.Finding.TheVariants as finding
 use Rattle.htn_cli.specs.declared.refusal.Refusal.TheVariants as refused
-use Rattle.htn_cli.specs.promise.Problems.{ForEach, ForSome}
+use Rattle.htn_cli.specs.promise.Problems.{ForEach}
 
 -- why a plan has no steps: the sentence of a finding; and but for a number of slots that is too small, no solution shows the plan
 pub record SaysWhy (given : Option ℕ) (plan : HPlan) (found : Finding) (c : Compiled) : Type 0 where
@@ -45,7 +45,7 @@ module _ (request : EncodeRequest) (d p hplan : List ℕ) where
     pub slots : ℕ
     pub slots_are : slots ≡ slots_for (slots_of request) width
     pub told : TakesWhole (steps_text width steps) out out'
-    pub latest : ForSome d p request.checks (λ c. IsSpelled c plan slots width steps)
+    pub latest : ForEach d p request.checks (λ h c. IsSpelled c plan slots width steps)
     -- with so many slots they are decoded to this plan, which is the one of the third text under other ids
     pub shown : HPlan
     pub shows : ForEach d p request.checks (λ h c. SpellShown c slots steps shown)
@@ -61,7 +61,7 @@ module _ (request : EncodeRequest) (d p hplan : List ℕ) where
     pub read : IsHPlanRead hplan plan
     pub found : Finding
     pub told : Told (line_of (refused.Finding found)) err err'
-    pub says : ForSome d p request.checks (SaysWhy (slots_of request) plan found)
+    pub says : ForEach d p request.checks (λ h c. SaysWhy (slots_of request) plan found c)
 
 module _ (words : List Word) (files : FilesState) (out out' : SinkState) where
   abbrev pub HasSteps : Type 0

@@ -27,7 +27,7 @@ pub returns-in-Ok-clause-tree : goal.returns-in-Ok-clause-tree
 returns-in-Ok-clause-tree g c = λ _. tree_done _ _ _ _ _ c.in-Ok.ensures.done c.values_are_decoded_alike.ensures
 
 pub returns-in-Ok-clause-steps : goal.returns-in-Ok-clause-steps
-returns-in-Ok-clause-steps g c = λ _. steps_done _ _ _ _ _ c.in-Ok.ensures.done c.values_are_decoded_alike.ensures
+returns-in-Ok-clause-steps g c = λ _. steps_done _ _ _ _ _ c.in-Ok.ensures.done c.values_are_decoded_alike.ensures c.values_are_encoded_alike.ensures
 
 pub returns-in-Ok-clause-past_all : goal.returns-in-Ok-clause-past_all
 returns-in-Ok-clause-past_all g c = λ n asks past. absurd (past_not_done _ _ _ _ _ n c.in-Ok.ensures.done asks (omega (arith, past)))
@@ -76,7 +76,7 @@ returns-in-Err-clause-read_fault g c =
 
 pub returns-in-Err-clause-finding : goal.returns-in-Err-clause-finding
 returns-in-Err-clause-finding g c =
-    λ e. finding_refused c.values_are_decoded_alike.ensures (words_of c.args.words.now) (g.F.Files.state c.args.files.now) (g.F.Files.state c.act.new.files) (g.O.Sink.state c.args.out.now) (g.O.Sink.state c.act.new.out) c.in-Err.refusal c.in-Err.ensures.refused (sym c.status-status.ensures ∙ e) _ _ c.tell.ensures.told
+    λ e. finding_refused c.values_are_decoded_alike.ensures c.values_are_encoded_alike.ensures (words_of c.args.words.now) (g.F.Files.state c.args.files.now) (g.F.Files.state c.act.new.files) (g.O.Sink.state c.args.out.now) (g.O.Sink.state c.act.new.out) c.in-Err.refusal c.in-Err.ensures.refused (sym c.status-status.ensures ∙ e) _ _ c.tell.ensures.told
 
 pub returns-in-Err-clause-past_all : goal.returns-in-Err-clause-past_all
 returns-in-Err-clause-past_all g c =
@@ -118,7 +118,7 @@ returns-in-Err-clause-inputs_stay g c =
 
 pub returns-in-Err-clause-found : goal.returns-in-Err-clause-found
 returns-in-Err-clause-found g c =
-    λ e. passes_finding (words_of c.args.words.now) (g.F.Files.passed c.args.files.now) (g.F.Files.passed c.act.new.files) c.values_are_decoded_alike.ensures c.in-Err.refusal c.in-Err.ensures.stopped (sym c.status-status.ensures ∙ e) _ _ c.tell.ensures.told
+    λ e. passes_finding (words_of c.args.words.now) (g.F.Files.passed c.args.files.now) (g.F.Files.passed c.act.new.files) c.values_are_decoded_alike.ensures c.values_are_encoded_alike.ensures c.in-Err.refusal c.in-Err.ensures.stopped (sym c.status-status.ensures ∙ e) _ _ c.tell.ensures.told
 
 pub returns-in-Err-clause-passed : goal.returns-in-Err-clause-passed
 returns-in-Err-clause-passed g c = λ e. absurd (never_done c.in-Err.refusal (sym c.status-status.ensures ∙ e))
