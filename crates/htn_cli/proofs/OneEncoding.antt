@@ -78,7 +78,7 @@ module _ (once : EachIsEncodedOnce) (alike : ValuesAreEncodedAlike) (request : E
     is_there GoalFalse is = encoded_alike.misses is
     is_there NoPlacement is = encoded_alike.no_place is
     is_there (NeedsBound width) (wide, needs) = (encoded_alike.width width wide, needs)
-    is_there (TooWide width) (wide, none) = (encoded_alike.width width wide, none)
+    is_there (TooWide width) (wide, none, many) = (encoded_alike.width width wide, none, many)
 
     one_step_text : (t u : StepText) → Is x.0 x.1 t → Is y.0 y.1 u → t ≡ u
     one_step_text t u is are =
