@@ -1,5 +1,5 @@
--- What an encoding gives, or is declined for, is one thing: three texts spell one hierarchical plan, which comes to one text or one sentence,
--- and to the same over each value that two of them spell.
+-- What an encoding gives, or is declined for, is one thing: three texts spell one hierarchical plan, which comes to one text or sentence, the
+-- same over each value that two of them spell.
 use Rattle.std.proofs.Common.{ℕ, ◌≡◌, ◌<◌, ◌≤◌, List, length, Option, option_map, refl, sym, ap, ◌∙◌, subst, arith}
 use Rattle.htn_base.specs.Limits.{longest_output, most_lines}
 use Rattle.plan_model.specs.declared.values.Compiled.{Compiled}
