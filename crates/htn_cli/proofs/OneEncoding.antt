@@ -1,4 +1,4 @@
--- What an encoding gives, or is declined for, is one thing: three texts spell one hierarchical plan, which comes to one text or one sentence,
+-- What an encoding gives, or is declined for, is one thing: three texts spell one hierarchical plan, which comes to one text or sentence,
 -- and to the same over each value that two of them spell.
 use Rattle.std.proofs.Common.{ℕ, ◌≡◌, ◌<◌, ◌≤◌, List, length, Option, option_map, refl, sym, ap, ◌∙◌, subst, arith}
 use Rattle.htn_base.specs.Limits.{longest_output, most_lines}
@@ -78,7 +78,7 @@ module _ (once : EachIsEncodedOnce) (alike : ValuesAreEncodedAlike) (request : E
     is_there GoalFalse is = encoded_alike.misses is
     is_there NoPlacement is = encoded_alike.no_place is
     is_there (NeedsBound width) (wide, needs) = (encoded_alike.width width wide, needs)
-    is_there (TooWide width) (wide, none) = (encoded_alike.width width wide, none)
+    is_there (TooWide width) (wide, none, many) = (encoded_alike.width width wide, none, many)
 
     one_step_text : (t u : StepText) → Is x.0 x.1 t → Is y.0 y.1 u → t ≡ u
     one_step_text t u is are =
@@ -115,7 +115,8 @@ module _ (once : EachIsEncodedOnce) (alike : ValuesAreEncodedAlike) (request : E
     shown : (text : List ℕ) (output : Output) → IsTextOf c plan given text → output ≡ told_alone text → length output.told ≤ longest_output
         → (x : Meant) × Encodes x (gives output)
     shown text output is e fits =
-        ((c, plan, s.spelled), few (Whole text) (gives output) s.few (is, subst (λ (o : Output). length o.told ≤ longest_output) e fits) (ap gives e))
+        let short = subst (λ (o : Output). length o.told ≤ longest_output) e fits in
+        ((c, plan, s.spelled), few (Whole text) (gives output) s.few (is, short) (ap gives e))
 
   declines : (refusal : Refusal) → RefusesEncode request d p l refusal → (x : Meant) × Encodes x (refuses refusal)
   declines (refused.Limit (limit.Lines n)) (c, plan, s, e, past) = ((c, plan, s), many n e past)
