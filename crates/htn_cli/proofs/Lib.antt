@@ -35,5 +35,7 @@ pub mod SomeInputs
 pub mod SomeProblem
 pub mod SomeTranslation
 pub mod SomeDecoding
+pub mod SomeHPlan
+pub mod SomeEncoding
 pub mod SomeValidation
 pub mod SomeAnswers

@@ -3,7 +3,7 @@
 use Rattle.std.specs.Prelude.{ℕ, ◌≤◌, List, [], ◌∷◌, Option, None, IfSome, option_map}
 use Rattle.htn_base.specs.Limits.{most_slots}
 use Rattle.command_words.specs.Names.{Word}
-use Rattle.command_words.specs.Words.{Request, to_translate, to_bound, to_decode, to_encode, to_validate, Asks, number_of}
+use Rattle.command_words.specs.Words.{Request, to_translate, to_bound, to_decode, to_encode, to_validate, number_of}
 
 -- its inputs, in the order in which they are read
 abbrev pub inputs_of : Request → List Word
@@ -32,12 +32,3 @@ slots_given (to_validate r) = None
 -- which is one that is printed
 abbrev pub IsWithin : Request → Type 0
 IsWithin request = IfSome (slots_given request) (λ n. n ≤ most_slots)
-
--- which is no encoding
-abbrev pub IsNoEncoding : Request → Type 0
-IsNoEncoding (to_encode r) = ⊥
-IsNoEncoding _ = Unit {0}
-
--- the words ask for no encoding
-abbrev pub AskForNoEncoding : List Word → Type 0
-AskForNoEncoding words = (request : Request) → Asks words request → IsNoEncoding request
