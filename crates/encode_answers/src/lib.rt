@@ -1,5 +1,5 @@
-//! Laws: a hierarchical plan comes to one thing alone, its latest schedule or the first sentence that says why it has none; and whichever
-//! value of two texts is taken, this is the same.
+//! Laws: a hierarchical plan comes to something, and to one thing alone, its latest schedule or the first sentence that says why it has
+//! none; and whichever value of two texts is taken, this is the same.
 //!
 //! Stands on the definitions of `placements` and `step_texts`, and on `decode_answers` for the values of two texts. The contract used
 //! above: the laws.
