@@ -1,5 +1,6 @@
 -- Of three texts that are encoded something follows.
-use Rattle.std.proofs.Common.{ℕ, ◌≡◌, ◌<◌, ◌≤◌, ◌⊎◌, inl, inr, List, [], ◌∷◌, length, Option, Some, None, option_map, refl, arith}
+use Rattle.std.proofs.Common.{ℕ, ◌≡◌, ◌<◌, ◌≤◌, ◌⊎◌, inl, inr, List, [], ◌∷◌, length, Option, Some, None, option_map}
+use Rattle.std.proofs.Common.{refl, arith}
 use Rattle.std.proofs.lemmas.Bool.{cases_lt}
 use Rattle.htn_base.specs.Limits.{longest_input, longest_output, most_lines}
 use Rattle.hddl_reader.specs.declared.sections.Language.TheVariants as language
@@ -34,7 +35,8 @@ no_numeral : (numeral : Option Word) → option_map number_of numeral ≡ None �
 no_numeral None e = refl
 no_numeral (Some word) e = absurd (cc)
 
-module _ (value : FaultlessHddlHasAValue) (somehow : EachIsEncodedSomehow) (request : EncodeRequest) (d p s : List ℕ) (domain_short : length d ≤ longest_input) (problem_short : length p ≤ longest_input) where
+module _ (value : FaultlessHddlHasAValue) (somehow : EachIsEncodedSomehow) (request : EncodeRequest) (d p s : List ℕ)
+    (domain_short : length d ≤ longest_input) (problem_short : length p ≤ longest_input) where
   abbrev Has : Type 0
   Has = Finished (to_encode request) (d ∷ p ∷ s ∷ [])
 
@@ -74,11 +76,14 @@ module _ (value : FaultlessHddlHasAValue) (somehow : EachIsEncodedSomehow) (requ
 
   by_plan : IsWithin (to_encode request) → Source → HPlanIsReadOrRefused s → Has
   by_plan within (c, is) (inl (plan, read)) = by_count c is plan read within (cases_lt most_lines (count_of plan))
-  by_plan within (c, is) (inr (f, x)) = by_fault (to_encode request) (d ∷ p ∷ s ∷ []) 2 request.hplan f.at f.code refl (of_third is.read.faultless x)
+  by_plan within (c, is) (inr (f, x)) =
+      by_fault (to_encode request) (d ∷ p ∷ s ∷ []) 2 request.hplan f.at f.code refl (of_third is.read.faultless x)
 
   by_file : (file code at : ℕ) → IsLeastFault language.Hddl d p file code at → Has
-  by_file file code at (in_domain x) = by_fault (to_encode request) (d ∷ p ∷ s ∷ []) 0 request.domain at code refl (of_problem (in_domain x))
-  by_file file code at (in_problem t raw good x) = by_fault (to_encode request) (d ∷ p ∷ s ∷ []) 1 request.problem at code refl (of_problem (in_problem t raw good x))
+  by_file file code at (in_domain x) =
+      by_fault (to_encode request) (d ∷ p ∷ s ∷ []) 0 request.domain at code refl (of_problem (in_domain x))
+  by_file file code at (in_problem t raw good x) =
+      by_fault (to_encode request) (d ∷ p ∷ s ∷ []) 1 request.problem at code refl (of_problem (in_problem t raw good x))
 
   by_meaning : (Source → Has) → Fault value d p domain_short problem_short request.checks ⊎ Source → Has
   by_meaning go (inl (file, code, at, x)) = by_file file code at x

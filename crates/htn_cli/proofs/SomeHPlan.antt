@@ -1,5 +1,6 @@
 -- A text is read as a hierarchical plan, or has a least fault as one.
-use Rattle.std.proofs.Common.{ℕ, zero, suc, ◌≡◌, ◌∙◌, ◌<◌, ◌≤◌, ◌⊎◌, inl, inr, List, [], ◌∷◌, ◌++◌, length, Option, Some, None, refl, sym, ap, subst, arith}
+use Rattle.std.proofs.Common.{ℕ, zero, suc, ◌≡◌, ◌∙◌, ◌<◌, ◌≤◌, ◌⊎◌, inl, inr, List, [], ◌∷◌, ◌++◌, length, Option, Some, None}
+use Rattle.std.proofs.Common.{refl, sym, ap, subst, arith}
 use Rattle.std.proofs.lemmas.Bool.{cases_eq, cases_lt}
 use Rattle.plan_texts.specs.Types.{Has}
 use Rattle.text_forms.specs.Faults.{Fault, fault, IsBefore}
@@ -41,7 +42,8 @@ next_or_last : (reached : List ℕ) (rest : List HNode) → IsNext reached rest 
 next_or_last reached [] = inr (λ x h r. h)
 next_or_last reached (y ∷ rest) = go (among_or_not reached y.line.id) (next_or_last reached rest)
   where
-    go : (Has reached y.line.id ⊎ (Has reached y.line.id → ⊥)) → (IsNext reached rest ⊎ AreAllTaken reached rest) → IsNext reached (y ∷ rest) ⊎ AreAllTaken reached (y ∷ rest)
+    go : (Has reached y.line.id ⊎ (Has reached y.line.id → ⊥)) → (IsNext reached rest ⊎ AreAllTaken reached rest)
+        → IsNext reached (y ∷ rest) ⊎ AreAllTaken reached (y ∷ rest)
     go (inl r) b = inl (record { node = y; others = rest; fewer = refl; is = inl refl; due = r; within = λ x h. inr h; all = λ x h. h })
     go (inr a) (inl n) = inl (record {
       node = n.node;
@@ -112,7 +114,8 @@ module _ (plan : HPlan) where
 one_before : (f g : Fault) → IsBefore f g ⊎ IsBefore g f
 one_before f g = go (cases_lt f.at g.at) (cases_lt g.at f.at) (cases_lt f.code g.code)
   where
-    go : ((f.at < g.at) ⊎ (g.at ≤ f.at)) → ((g.at < f.at) ⊎ (f.at ≤ g.at)) → ((f.code < g.code) ⊎ (g.code ≤ f.code)) → IsBefore f g ⊎ IsBefore g f
+    go : ((f.at < g.at) ⊎ (g.at ≤ f.at)) → ((g.at < f.at) ⊎ (f.at ≤ g.at)) → ((f.code < g.code) ⊎ (g.code ≤ f.code))
+        → IsBefore f g ⊎ IsBefore g f
     go (inl l) b c = inl (inl l)
     go (inr l) (inl m) c = inr (inl m)
     go (inr l) (inr m) (inl k) = inl (inr (omega arith, omega arith))
@@ -192,7 +195,8 @@ module _ (text : List ℕ) where
     is_tree g t = subst (λ o. IsTreeFault o g) (sym e) t
 
     by_lost : HaveLeast lost_fault IsLost (own_ids (rows m)) → HPlanIsReadOrRefused text
-    by_lost (inl (x, (h, lost, least))) = inr (lost_fault x, least-tree text (lost_fault x) lines_none ids_none (is_tree (lost_fault x) (x, h, lost, refl)) before)
+    by_lost (inl (x, (h, lost, least))) =
+        inr (lost_fault x, least-tree text (lost_fault x) lines_none ids_none (is_tree (lost_fault x) (x, h, lost, refl)) before)
       where
         of : (g : Fault) → IsUnreached (rows m) g → IsBefore (lost_fault x) g
         of g (y, i, n, q) = subst (IsBefore (lost_fault x)) (sym q) (least y i n)
