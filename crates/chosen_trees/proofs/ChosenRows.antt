@@ -1,9 +1,10 @@
 -- Growths that stand where the rows of a tree stand, with the labels of chosen values, are those of the tree that has these values.
-use Rattle.std.proofs.Common.{ℕ, zero, suc, ◌≡◌, ◌+◌, ◌≤◌, inl, inr, ◌∙◌, Bool, true, false, List, [], ◌∷◌, ◌++◌, length, cond, slice_get, Option, Some, None, option_map, refl, ap, sym, subst, arith}
+use Rattle.std.proofs.Common.{ℕ, zero, suc, ◌≡◌, ◌+◌, ◌≤◌, inl, inr, ◌∙◌, Bool, true, false, List, [], ◌∷◌, ◌++◌, length, cond, slice_get, Option, Some, None, option_map, Result, Ok, Err, IfOk, refl, ap, sym, subst, arith}
 use Rattle.std.specs.Option.{option_and_then, unwrap_or}
 use Rattle.std.proofs.lemmas.Bool.{cases_lt}
 use Rattle.std.proofs.lemmas.Option.{slice_get_past}
 use Rattle.std.proofs.lemmas.List.{length-map, length-append}
+use Rattle.htn_base.specs.declared.memory.Memory.{Memory}
 use Rattle.plan_texts.specs.SoundlyCompiled.{IsSoundlyCompiled}
 use Rattle.plan_model.specs.declared.values.Compiled.{Compiled}
 use Rattle.plan_model.specs.task_networks.Net.{Net}
@@ -20,9 +21,10 @@ use Rattle.tree_core.specs.Tables.{Row, table, IsWay, IsRow}
 use Rattle.tree_core.specs.Growths.{Growth, IsUnder, IsTreeOf}
 use Rattle.tree_core.specs.Labels.{labels, label_of, growth_of, growths_of, labelled, labelled_node}
 use Rattle.tree_core.specs.Runs.{label_in, IsRun}
-use Rattle.tree_core.proofs.Gets.{get_within, get_some, get_cases, mapped}
+use Rattle.tree_core.proofs.Gets.{get_some, get_cases, mapped}
 use Rattle.tree_core.proofs.Siblings.{as_many, row_of_node, place_of_node, node_address, first_child}
 use Rattle.tree_core.proofs.GrowthLaws.{growths_have_one_tree}
+use Rattle.tree_core.proofs.Labels.{labels_tell_tree}
 use Rattle.tree_core.proofs.Labelled.{label_at-labelled, preorder-labelled, labelled_address}
 use Rattle.schedules.specs.latest.Relabelled as relabelling
 use Rattle.schedules.proofs.latest.Relabelled.{same_shape}
@@ -31,7 +33,7 @@ use Rattle.plan_encoder.specs.ChosenValues.{with_values, method_with, work_with,
 use Rattle.plan_encoder.proofs.ChosenTrees.{label_chosen}
 use Rattle.plan_encoder.proofs.Standing.{check_is_first, check_below}
 use Rattle.chosen_trees.specs.ChosenTrees.{IsSetting, IsChosenTree}
-use Rattle.chosen_trees.specs.Growing.{values_in, asking_from, new_label, IsGrowthAt, AreGrowthsBefore}
+use Rattle.chosen_trees.specs.Growing.{values_in, asking_from, new_label, HasValues, IsGrowthAt, AreGrowthsBefore}
 
 -- a label of a tree is no open leaf
 not_open : (l : Label) (w : Work) → Some (label_of l) ≡ Some (waits w) → ⊥
@@ -74,7 +76,17 @@ module _ (c : Compiled) (list : List (List ℕ)) (rows : List (Row labels)) wher
     | inr past ↦ omega arith
   ]
 
-  module _ (soundly : IsSoundlyCompiled c) (gs : List Grown.Growth) (are : AreGrowthsBefore c list rows (length rows) gs)
+  -- growths have no open leaves
+  closed_by : (gs : List Grown.Growth) → AreGrowthsBefore c list rows (length rows) gs → (k : ℕ) (w : Work) → label_in rows k ≡ Some (waits w) → ⊥
+  closed_by gs are k w e =
+      let within = label_within k (waits w) (sym e) in
+      let many = are.many in
+      let (g, here) = get_some gs k (omega arith) in
+      let is = are.each k g here in
+      not_open is.old w (sym is.was ∙ e)
+
+  -- where no label is an open leaf's
+  module _ (soundly : IsSoundlyCompiled c) (closed : (k : ℕ) (w : Work) → label_in rows k ≡ Some (waits w) → ⊥)
       (tree : Tree (network c)) (values : Address → List ℕ) (s : IsSetting c rows list tree values) where
     abbrev N : Net
     N = network c
@@ -99,12 +111,7 @@ module _ (c : Compiled) (list : List (List ℕ)) (rows : List (Row labels)) wher
     no_leaves : (p : Address) → IsOpen N tree p → ⊥
     no_leaves p (w, e) =
         let (k, at) = place_of_node N tree p (waits w, e) in
-        let (r, there, row) = row_at k p at in
-        let within = get_within rows k r there in
-        let many = are.many in
-        let (g, here) = get_some gs k (omega arith) in
-        let is = are.each k g here in
-        not_open is.old w (sym is.was ∙ label_here k p at ∙ ap (option_map (labelled_node c)) e)
+        closed k w (label_here k p at ∙ ap (option_map (labelled_node c)) e)
 
     -- the node that asks for the values of a method stands where they are taken from
     asks_at : (k : ℕ) (p : Address) (g : GroundMethod) → slice_get (preorder N tree) k ≡ Some p → label_at N tree p ≡ Some (used g)
@@ -140,56 +147,89 @@ module _ (c : Compiled) (list : List (List ℕ)) (rows : List (Row labels)) wher
         let head = s.same_task p g e in
         λ i. used (record { head = head i; method = with_values g (taken i) })
 
-    labels_are : (k : ℕ) (g : Grown.Growth) (p : Address) → slice_get gs k ≡ Some g → slice_get (preorder N tree) k ≡ Some p
-        → label_at labels (labelled c new) p ≡ Some (label_of g.label)
-    labels_are k g p here at =
-        let is = are.each k g here in
-        let (l, e) = node_address N tree k p at in
-        let was : label_of is.old ≡ labelled_node c l = some_once (sym is.was ∙ label_here k p at ∙ ap (option_map (labelled_node c)) e) in
-        label_at-labelled c new p
-        ∙ ap (option_map (labelled_node c)) (label_chosen c tree values p ∙ ap (option_map (label_then p)) e)
-        ∙ ap Some (label_new k p l at e ∙ ap (new_label c list k) (sym was) ∙ sym is.label)
+    -- where each label has the values already, the tree is the same
+    module _ (has : HasValues c list rows) where
+      same_label : (p : Address) → label_at labels (labelled c new) p ≡ label_at labels (labelled c tree) p
+      same_label p = label_at-labelled c new p ∙ ap (option_map (labelled_node c)) (label_chosen c tree values p) ∙ go (label_at N tree p) refl
+          ∙ sym (label_at-labelled c tree p)
+        where
+          go : (o : Option (Trees.Label N)) → label_at N tree p ≡ o
+              → option_map (labelled_node c) (option_map (label_then p) (label_at N tree p)) ≡ option_map (labelled_node c) (label_at N tree p)
+          go None e = ap (λ o. option_map (labelled_node c) (option_map (label_then p) o)) e ∙ sym (ap (option_map (labelled_node c)) e)
+          go (Some l) e =
+              let (k, at) = place_of_node N tree p (l, e) in
+              let (old, is, stays) = has k (labelled_node c l) (label_here k p at ∙ ap (option_map (labelled_node c)) e) in
+              ap (λ o. option_map (labelled_node c) (option_map (label_then p) o)) e
+              ∙ ap Some (label_new k p l at e ∙ ap (new_label c list k) is ∙ stays ∙ sym is)
+              ∙ sym (ap (option_map (labelled_node c)) e)
 
-    under_way : (k : ℕ) (r : Row labels) (p : Address) → IsWay labels (labelled c tree) k r p → (parent : Option ℕ) (child : ℕ)
-        → parent ≡ r.parent
-        → child ≡ unwrap_or (option_map (λ (x : ℕ). r.number) r.parent) 0 → IsUnder labels (preorder N tree) k parent child p
-    under_way k r [] way parent child e f = subst (λ o. IsUnder labels (preorder N tree) k o child []) (sym (e ∙ way.1)) refl
-    under_way k r (i ∷ q) (number, (x, less, up, above)) parent child e f =
-        let child_is : child ≡ i = f ∙ ap (λ (o : Option ℕ). unwrap_or (option_map (λ (x : ℕ). r.number) o) 0) up ∙ number in
-        subst (λ o. IsUnder labels (preorder N tree) k o child (i ∷ q)) (sym (e ∙ up))
-        (less, (q, ap (λ ps. slice_get ps x) (sym (preorder-labelled c tree)) ∙ above, ap (λ z. z ∷ q) (sym child_is)))
+      kept_is : rows ≡ table labels (labelled c new)
+      kept_is = s.rows_are ∙ ap (table labels) (sym (labels_tell_tree labels (labelled c new) (labelled c tree) same_label))
 
-    under : (k : ℕ) (g : Grown.Growth) (p : Address) → slice_get gs k ≡ Some g → slice_get (preorder N tree) k ≡ Some p
-        → IsUnder labels (preorder N tree) k g.parent g.child p
-    under k g p here at =
-        let is = are.each k g here in
-        let (r, e, row) = row_at k p at in
-        under_way k r p row.way g.parent g.child (is.parent ∙ ap (option_and_then (λ (z : Row labels). z.parent)) e)
-        (is.child ∙ ap (λ (o : Option (Row labels)). unwrap_or (option_and_then (λ (z : Row labels). option_map (λ (x : ℕ). z.number) z.parent) o) 0) e)
+    -- else it grows anew
+    module _ (gs : List Grown.Growth) (are : AreGrowthsBefore c list rows (length rows) gs) where
+      labels_are : (k : ℕ) (g : Grown.Growth) (p : Address) → slice_get gs k ≡ Some g → slice_get (preorder N tree) k ≡ Some p
+          → label_at labels (labelled c new) p ≡ Some (label_of g.label)
+      labels_are k g p here at =
+          let is = are.each k g here in
+          let (l, e) = node_address N tree k p at in
+          let was : label_of is.old ≡ labelled_node c l = some_once (sym is.was ∙ label_here k p at ∙ ap (option_map (labelled_node c)) e) in
+          label_at-labelled c new p
+          ∙ ap (option_map (labelled_node c)) (label_chosen c tree values p ∙ ap (option_map (label_then p)) e)
+          ∙ ap Some (label_new k p l at e ∙ ap (new_label c list k) (sym was) ∙ sym is.label)
 
-    is_tree : IsTreeOf labels (growths_of gs) (labelled c new) (preorder N tree)
-    is_tree = record {
-      growths_are = record {
-        many = sym (ap length (preorder-labelled c tree)) ∙ sym (as_many labels (labelled c tree)) ∙ sym (ap length s.rows_are) ∙ sym are.many ∙ sym (length-map gs growth_of);
-        under = λ k (h : Growth labels) p e at. (
-            let (g, here, is) = mapped growth_of gs k h e in
-            subst (λ (z : Growth labels). IsUnder labels (preorder N tree) k z.parent z.child p) is (under k g p here at));
-        labels = λ k (h : Growth labels) p e at. (
-            let (g, here, is) = mapped growth_of gs k h e in
-            labels_are k g p here at ∙ ap (λ (z : Growth labels). Some z.label) is);
-      };
-      all = λ p a. lists_address N tree p
-          (address_back N tree new (same_shape N (work_with values) (method_with values) (λ p m i j. (λ x. x, λ x. x)) tree) p (labelled_address c new p a));
-      different = different_nodes N tree [];
-    }
+      under_way : (k : ℕ) (r : Row labels) (p : Address) → IsWay labels (labelled c tree) k r p → (parent : Option ℕ) (child : ℕ)
+          → parent ≡ r.parent
+          → child ≡ unwrap_or (option_map (λ (x : ℕ). r.number) r.parent) 0 → IsUnder labels (preorder N tree) k parent child p
+      under_way k r [] way parent child e f = subst (λ o. IsUnder labels (preorder N tree) k o child []) (sym (e ∙ way.1)) refl
+      under_way k r (i ∷ q) (number, (x, less, up, above)) parent child e f =
+          let child_is : child ≡ i = f ∙ ap (λ (o : Option ℕ). unwrap_or (option_map (λ (x : ℕ). r.number) o) 0) up ∙ number in
+          subst (λ o. IsUnder labels (preorder N tree) k o child (i ∷ q)) (sym (e ∙ up))
+          (less, (q, ap (λ ps. slice_get ps x) (sym (preorder-labelled c tree)) ∙ above, ap (λ z. z ∷ q) (sym child_is)))
 
-    -- so what grows of them is that tree
-    grown_is : (run : Scheduled) → IsRun (growths_of gs) run → run.tree ≡ table labels (labelled c (chosen c tree values))
-    grown_is run r =
-        r.rows ∙ ap (table labels) (growths_have_one_tree labels (growths_of gs) (labelled c new) r.tree (preorder N tree) r.order is_tree r.grown).0
+      under : (k : ℕ) (g : Grown.Growth) (p : Address) → slice_get gs k ≡ Some g → slice_get (preorder N tree) k ≡ Some p
+          → IsUnder labels (preorder N tree) k g.parent g.child p
+      under k g p here at =
+          let is = are.each k g here in
+          let (r, e, row) = row_at k p at in
+          under_way k r p row.way g.parent g.child (is.parent ∙ ap (option_and_then (λ (z : Row labels). z.parent)) e)
+          (is.child ∙ ap (λ (o : Option (Row labels)). unwrap_or (option_and_then (λ (z : Row labels). option_map (λ (x : ℕ). z.number) z.parent) o) 0) e)
+
+      is_tree : IsTreeOf labels (growths_of gs) (labelled c new) (preorder N tree)
+      is_tree = record {
+        growths_are = record {
+          many = sym (ap length (preorder-labelled c tree)) ∙ sym (as_many labels (labelled c tree)) ∙ sym (ap length s.rows_are) ∙ sym are.many ∙ sym (length-map gs growth_of);
+          under = λ k (h : Growth labels) p e at. (
+              let (g, here, is) = mapped growth_of gs k h e in
+              subst (λ (z : Growth labels). IsUnder labels (preorder N tree) k z.parent z.child p) is (under k g p here at));
+          labels = λ k (h : Growth labels) p e at. (
+              let (g, here, is) = mapped growth_of gs k h e in
+              labels_are k g p here at ∙ ap (λ (z : Growth labels). Some z.label) is);
+        };
+        all = λ p a. lists_address N tree p
+            (address_back N tree new (same_shape N (work_with values) (method_with values) (λ p m i j. (λ x. x, λ x. x)) tree) p (labelled_address c new p a));
+        different = different_nodes N tree [];
+      }
+
+      -- so what grows of them is that tree
+      grown_is : (run : Scheduled) → IsRun (growths_of gs) run → run.tree ≡ table labels (labelled c (chosen c tree values))
+      grown_is run r =
+          r.rows ∙ ap (table labels) (growths_have_one_tree labels (growths_of gs) (labelled c new) r.tree (preorder N tree) r.order is_tree r.grown).0
 
   pub grown_is_chosen : IsSoundlyCompiled c → (n : ℕ) (gs : List Grown.Growth) → AreGrowthsBefore c list rows n gs → n ≤ length rows
       → None ≡ label_in rows n
       → (run : Scheduled) → IsRun (growths_of gs) run → IsChosenTree c rows list run.tree
   grown_is_chosen soundly n gs are within none run r tree values s =
-      grown_is soundly gs (subst (λ z. AreGrowthsBefore c list rows z gs) (at_end n within none) are) tree values s run r
+      let all = subst (λ z. AreGrowthsBefore c list rows z gs) (at_end n within none) are in
+      grown_is soundly (closed_by gs all) tree values s gs all run r
+
+  -- the tree that has the values already
+  kept_is_chosen : IsSoundlyCompiled c → HasValues c list rows → IsChosenTree c rows list rows
+  kept_is_chosen soundly has tree values s =
+      kept_is soundly (λ k w e. let (old, is, stays) = has k (waits w) e in not_open old w (ap Some (sym is))) tree values s has
+
+  -- and a copy of it does
+  pub copy_is_chosen : IsSoundlyCompiled c → HasValues c list rows → (made : Result (List (Row labels)) Memory)
+      → IfOk made (λ copy. copy ≡ rows) → IfOk made (IsChosenTree c rows list)
+  copy_is_chosen soundly has (Ok copy) e = subst (IsChosenTree c rows list) (sym e) (kept_is_chosen soundly has)
+  copy_is_chosen soundly has (Err m) e = tt

@@ -31,6 +31,14 @@ module _ (c : Compiled) where
       method = with_values d.method (values_in list (asking_from d.method.number address));
     })
 
+    -- a label has these values already, and is no open leaf's
+    abbrev pub IsKept : ℕ → Trees.Label labels → Type 0
+    IsKept address label = (old : Label) × (label ≡ label_of old) × (new_label address (label_of old) ≡ label_of old)
+
+    -- each label does
+    abbrev pub HasValues : List (Row labels) → Type 0
+    HasValues rows = (address : ℕ) (label : Trees.Label labels) → label_in rows address ≡ Some label → IsKept address label
+
     module _ (rows : List (Row labels)) where
       -- the growth of the node at an address, where a label stands
       pub record IsGrowthAt (address : ℕ) (growth : Grown.Growth) : Type 0 where

@@ -1,9 +1,9 @@
-ghost use Rattle.std.specs.Prelude.{◌≡◌, ◌≤◌, ◌<◌, length, IfOk};
+ghost use Rattle.std.specs.Prelude.{◌≡◌, ◌≤◌, ◌<◌, length, IsTrue, IfOk};
 ghost use Rattle.htn_base.specs.Limits.{most_steps};
 ghost use Rattle.plan_texts.specs.SoundlyCompiled.{IsSoundlyCompiled};
 ghost use Rattle.tree_core.specs.Labels.{label_of};
 ghost use Rattle.chosen_trees.specs.ChosenTrees as spec;
-ghost use Rattle.chosen_trees.specs.Growing.{values_in, asking_from, new_label};
+ghost use Rattle.chosen_trees.specs.Growing.{values_in, asking_from, new_label, HasValues};
 
 use htn_base::{List, Memory};
 use plan_model::Compiled;
@@ -18,6 +18,59 @@ pub fn with_values(
     tree: &Tree,
     values: &[List<u32>],
 ) -> Result<Tree, Memory>
+    requires soundly { IsSoundlyCompiled c.now }
+    requires few { length tree.now ≤ most_steps }
+    ensures tree { IfOk result (spec.IsChosenTree c.now tree.now values.now) }
+{
+    if has_values(c, tree, values) {
+        return tree.copy(alloc);
+    }
+    grown(alloc, c, tree, values)
+}
+
+/// Whether each method has these values already.
+fn has_values(c: &Compiled, tree: &Tree, values: &[List<u32>]) -> bool
+    requires few { length tree.now ≤ most_steps }
+    ensures { IsTrue result → HasValues c.now values.now tree.now }
+{
+    let mut address = 0;
+    while let Some(label) = tree.label(address) {
+        if !label_has(c, values, address, label) {
+            return false;
+        }
+        address += 1;
+    }
+    true
+}
+
+/// Whether the label at an address has the values of the node that asks for them already.
+fn label_has(c: &Compiled, values: &[List<u32>], address: u32, label: &Label) -> bool
+    requires few { address < most_steps }
+    ensures { IsTrue result → new_label c.now values.now address (label_of label.now) ≡ label_of label.now }
+{
+    match label {
+        Label::Primitive { action: _, args: _ } => true,
+        Label::Check { method: _, args } => are_at(values, address, args),
+        Label::Abstract {
+            method,
+            method_args,
+            ..
+        } => are_at(values, asking(c, *method, address), method_args),
+    }
+}
+
+/// Whether these values stand at an address.
+fn are_at(values: &[List<u32>], address: u32, own: &List<u32>) -> bool
+    ensures { IsTrue result → values_in values.now address ≡ own.now }
+{
+    match values.get(address as usize) {
+        Some(found) => found == own,
+        None => own.as_slice().is_empty(),
+    }
+}
+
+/// The tree in which each method has the values at the place of the node that asks for them, grown anew.
+fn grown(alloc: Global, c: &Compiled, tree: &Tree, values: &[List<u32>]) -> Result<Tree, Memory>
     requires soundly { IsSoundlyCompiled c.now }
     requires few { length tree.now ≤ most_steps }
     ensures tree { IfOk result (spec.IsChosenTree c.now tree.now values.now) }

@@ -5,8 +5,8 @@ ghost use Rattle.slot_speller.specs.Steps as spec;
 
 use crate::children::{after, plan_of};
 use crate::slots::Slots;
-use crate::words::{name, objects, put_objects};
-use htn_base::{List, Memory, NameTable, Text, slot_name};
+use crate::words::{name, objects, put_objects, slot};
+use htn_base::{List, Memory, NameTable, Text};
 use plan_model::{Compiled, GroundAction, MethodPlan};
 use problem_index::printed_words;
 use std::alloc::Global;
@@ -88,7 +88,7 @@ fn put_slots(
     ensures { OnOk result (args.new ≡ args.old ++ map slot_word
         (spec.slots_by tree.now slots.now.by_node.items node (option_copied plan.entry))) }
 {
-    args.put(slot_name(alloc, slots.at(node)))?;
+    args.put(slot(alloc, slots.at(node)))?;
     if let Some(plan) = plan {
         if let Some(heir) = plan.heir {
             return put_new(
@@ -122,7 +122,7 @@ fn put_new(
     let mut child = node + 1;
     for number in 0..count {
         if number != heir as usize {
-            args.put(slot_name(alloc, slots.at(child)))?;
+            args.put(slot(alloc, slots.at(child)))?;
         }
         child = after(tree, child);
     }

@@ -1,11 +1,12 @@
 ghost use Rattle.std.specs.Prelude.{◌≡◌, ◌++◌, map, slice_get, IfOk, OnOk};
 ghost use Rattle.std.specs.Option.{option_copied};
-ghost use Rattle.htn_base.specs.Escapes.{escaped};
+ghost use Rattle.htn_base.specs.Escapes.{escaped, slot_word};
 ghost use Rattle.plan_model.specs.plan_meaning.SpelledPlan as plans;
 ghost use Rattle.tree_core.specs.Runs.{label_in};
 ghost use Rattle.slot_speller.specs.Steps as spec;
 
 use htn_base::{List, Memory, Name, NameTable, Text};
+use itoa::Buffer;
 use plan_model::Compiled;
 use std::alloc::Global;
 use tree_core::{Label, Tree};
@@ -73,6 +74,20 @@ pub(crate) fn name(
         }
         None => Ok(Text::new(alloc)),
     }
+}
+
+/// The word of a slot, in a text that has its room from the first.
+pub(crate) fn slot(alloc: Global, slot: u32) -> Result<Text, Memory>
+    ensures slot { IfOk result (λ text. text ≡ slot_word slot) }
+{
+    let mut buffer = Buffer::new();
+    let digits = buffer.format(slot).as_bytes();
+    let beginning: &[u8] = b"htn_s";
+    let mut text = Text::new(alloc);
+    text.reserve(beginning.len().saturating_add(digits.len()))?;
+    text.push_all(beginning)?;
+    text.push_all(digits)?;
+    Ok(text)
 }
 
 /// The printed word of an object.

@@ -67,8 +67,8 @@ loop-number-preserved c = record {
   words = elim c.if-number-heir.branch [
     | then-number-heir+in_ok-put w ↦ w.args-is
         ∙ put rows nodes c.args.node c.args.heir c.loop-number.number c.args.args.now c.loop-number.args c.loop-number.invariant.words
-        w.if-number-heir.true c.loop-number.child c.loop-number.invariant.child w.at.result w.at.ensures w.put.new.self w.slot_name.result
-        w.slot_name.ensures.slot w.in_ok-put.ensures.put
+        w.if-number-heir.true c.loop-number.child c.loop-number.invariant.child w.at.result w.at.ensures w.put.new.self w.slot.result
+        w.slot.ensures.slot w.in_ok-put.ensures.put
     | else-number-heir w ↦ w.args-is
         ∙ skipped rows nodes c.args.node c.args.heir c.loop-number.number c.args.args.now c.loop-number.args c.loop-number.invariant.words
         w.if-number-heir.false

@@ -1,6 +1,6 @@
 use Rattle.std.proofs.Common.{◌-◌, ◌≤◌, length}
 use Rattle.chosen_trees.specs.Growing.{AreGrowthsBefore}
-use Rattle.chosen_trees.proofs.choosing.with_values.Given as goal
+use Rattle.chosen_trees.proofs.choosing.grown.Given as goal
 
 abbrev pub invariant-loop-label : goal.invariant-loop-label
 invariant-loop-label l = record {
