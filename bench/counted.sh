@@ -5,8 +5,8 @@
 # the same with a million); `decode` of 25,000 uses of a tail-recursive method, and of the deliveries of 200 packages, and `encode` of
 # the trees of both. Wants ./htn, as examples/transport/run leaves it, and valgrind. A line each: the instructions.
 #
-# Counted, in the order of the cases, millions: 19.7, 97.8, 756.6, 408.0, 303.0, 285.5, 215.2, `decode` 317.5, 24.6, and `encode` 580.6 and
-# 44.5, of which `tree_core::grow`, called twice, is 204 and 6.6. Before words of
+# Counted, in the order of the cases, millions: 19.7, 97.8, 756.6, 408.0, 303.0, 285.5, 215.2, `decode` 317.5, 24.6, and `encode` 470.6 and
+# 41.1. Before a tree that has its values already was copied, and a slot's word had its room from the first: `encode` 580.6, 44.5. Before words of
 # one hash were found in buckets of four: 19.6, 81.4, 740.6, 405.3, 330.7, 279.0, 210.1. Before words of one hash were found in
 # order and an answer was an output: 19.4, 81.2, 740.4, 405.4, 326.8, 277.9, 211.3. Before small functions of one call stood in
 # their callers, for the third time: 19.3, 80.9, 738.4, 405.3, 326.3, 276.0, 213.9; for the second: 19.1, 81.6, 747.9, 413.2, 331.7, 281.2,
