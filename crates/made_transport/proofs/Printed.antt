@@ -1,5 +1,6 @@
 -- The words and ids of a made plan are printable, and the made texts are short.
-use Rattle.std.proofs.Common.{ℕ, zero, suc, ◌≡◌, ◌+◌, ◌*◌, ◌^◌, ◌<◌, ◌≤◌, ◌&&◌, inl, inr, Bool, true, List, [], ◌∷◌, map, codes, refl, ap, ap₂, subst, lit<, arith}
+use Rattle.std.proofs.Common.{ℕ, zero, suc, ◌≡◌, ◌+◌, ◌*◌, ◌^◌, ◌<◌, ◌≤◌, ◌&&◌, inl, inr, Bool, true, List, [], ◌∷◌, map, codes, refl}
+use Rattle.std.proofs.Common.{ap, ap₂, subst, lit<, arith}
 use Rattle.std.specs.Char.{to_ascii_lowercase}
 use Rattle.std.specs.Fmt.{decimal}
 use Rattle.std.specs.List.{list_all}
@@ -14,7 +15,8 @@ use Rattle.plan_texts.specs.Types.{Has, EachIs}
 use Rattle.plan_texts.proofs.Members.{has-of_map}
 use Rattle.hplan_text.specs.Rows.{is_word_byte}
 use Rattle.hplan_text.specs.Printable.{IsPrintableWord, IsSmall, IsPrintableLine, IsPrintableNode, IsPrintableHPlan}
-use Rattle.made_transport.specs.Made.{package_word, drive, pick_up, drop_there, primitives_for, is_there, goes_there, gets_on, deliver_id, back_id, delivers, nodes_for, primitive_count, made_plan}
+use Rattle.made_transport.specs.Made.{package_word, drive, pick_up, drop_there, primitives_for, is_there, goes_there, gets_on}
+use Rattle.made_transport.specs.Made.{deliver_id, back_id, delivers, nodes_for, primitive_count, made_plan}
 use Rattle.made_transport.proofs.Reached.{number-has, each-of_flat}
 
 both : {a b : Bool} → a ≡ true → b ≡ true → (a && b) ≡ true
@@ -89,7 +91,11 @@ drive-line : (id : ℕ) (from to : List ℕ) → id < 8000 → IsPrintableWord f
 drive-line id from to l f t = record { id = small id l; name = drive-is; args = (v1-is, (f, (t, tt))) }
 
 is_there-node : (id : ℕ) (place : List ℕ) → id < 8000 → IsPrintableWord place → IsPrintableNode (is_there id place)
-is_there-node id place l p = record { line = record { id = small id l; name = get-to-is; args = (v1-is, (p, tt)) }; method = m-there-is; ids = tt }
+is_there-node id place l p = record {
+  line = record { id = small id l; name = get-to-is; args = (v1-is, (p, tt)) };
+  method = m-there-is;
+  ids = tt;
+}
 
 goes_there-node : (id : ℕ) (place : List ℕ) (driven there : ℕ) → id < 8000 → driven < 8000 → there < 8000 → IsPrintableWord place
     → IsPrintableNode (goes_there id place driven there)
@@ -104,7 +110,15 @@ module _ (k : ℕ) (few : k ≤ 819) where
   package-is j l = package-printable j (omega arith)
 
   lines-behind : (j : ℕ) → j < k → EachIs IsPrintableLine (pick_up j ∷ drive (4 * j + 1) (codes "l0") (codes "l1") ∷ drop_there j ∷ [])
-  lines-behind j l = (record { id = small (4 * j) (omega arith); name = pick-up-is; args = (v1-is, (l0-is, (package-is j l, tt))) }, (drive-line (4 * j + 1) (codes "l0") (codes "l1") (omega arith) l0-is l1-is, (record { id = small (4 * j + 2) (omega arith); name = drop-is; args = (v1-is, (l1-is, (package-is j l, tt))) }, tt)))
+  lines-behind j l =
+      let a : 4 * j < 8000 = omega arith in
+      let b : 4 * j + 1 < 8000 = omega arith in
+      let c : 4 * j + 2 < 8000 = omega arith in
+      let picks : IsPrintableLine (pick_up j) =
+      record { id = small (4 * j) a; name = pick-up-is; args = (v1-is, (l0-is, (package-is j l, tt))) } in
+      let drops : IsPrintableLine (drop_there j) =
+      record { id = small (4 * j + 2) c; name = drop-is; args = (v1-is, (l1-is, (package-is j l, tt))) } in
+      (picks, (drive-line (4 * j + 1) (codes "l0") (codes "l1") b l0-is l1-is, (drops, tt)))
 
   primitives-printable : (j : ℕ) → j < k → EachIs IsPrintableLine (primitives_for j)
   primitives-printable zero l = lines-behind 0 l
@@ -123,22 +137,49 @@ module _ (k : ℕ) (few : k ≤ 819) where
     delivers-printable j l = record {
       line = record { id = small (deliver_id n j) (id-small j l); name = deliver-is; args = (package-is j l, (l1-is, tt)) };
       method = m-deliver-is;
-      ids = (small (back_id n j) (back-small j l), (small (4 * j) (omega arith), (small (n + 5 * j + 2) (omega arith), (small (4 * j + 2) (omega arith), tt))));
+      ids = (
+        small (back_id n j) (back-small j l),
+        (small (4 * j) (omega arith), (small (n + 5 * j + 2) (omega arith), (small (4 * j + 2) (omega arith), tt))),
+      );
     }
 
     nodes-behind : (j : ℕ) → j < k → EachIs IsPrintableNode (gets_on n j)
-    nodes-behind j l = (is_there-node (n + 5 * j + 1) (codes "l0") (omega arith) l0-is, (goes_there-node (n + 5 * j + 2) (codes "l1") (4 * j + 1) (n + 5 * j + 3) (omega arith) (omega arith) (omega arith) l1-is, (is_there-node (n + 5 * j + 3) (codes "l1") (omega arith) l1-is, tt)))
+    nodes-behind j l =
+        let a : n + 5 * j + 1 < 8000 = omega arith in
+        let b : n + 5 * j + 2 < 8000 = omega arith in
+        let c : n + 5 * j + 3 < 8000 = omega arith in
+        let d : 4 * j + 1 < 8000 = omega arith in (
+          is_there-node (n + 5 * j + 1) (codes "l0") a l0-is,
+          (
+            goes_there-node (n + 5 * j + 2) (codes "l1") (4 * j + 1) (n + 5 * j + 3) b d c l1-is,
+            (is_there-node (n + 5 * j + 3) (codes "l1") c l1-is, tt),
+          ),
+        )
 
     nodes-printable : (j : ℕ) → j < k → EachIs IsPrintableNode (nodes_for n j)
     nodes-printable zero l = (delivers-printable 0 l, nodes-behind 0 l)
-    nodes-printable (suc i) l = (delivers-printable (suc i) l, (goes_there-node (n + 5 * i + 5) (codes "l0") (4 * i + 3) (n + 5 * i + 6) (omega arith) (omega arith) (omega arith) l0-is, nodes-behind (suc i) l))
+    nodes-printable (suc i) l =
+        let a : n + 5 * i + 5 < 8000 = omega arith in
+        let b : 4 * i + 3 < 8000 = omega arith in
+        let c : n + 5 * i + 6 < 8000 = omega arith in (
+          delivers-printable (suc i) l,
+          (goes_there-node (n + 5 * i + 5) (codes "l0") (4 * i + 3) (n + 5 * i + 6) a b c l0-is, nodes-behind (suc i) l),
+        )
 
     root-printable : (m : ℕ) → Has (map (deliver_id n) (numbers 0 k)) m → IsSmall m
-    root-printable m h = let (j, d, e) = has-of_map (deliver_id n) (numbers 0 k) m h in subst IsSmall e (small (deliver_id n j) (id-small j (number-has k j d)))
+    root-printable m h =
+        let (j, d, e) = has-of_map (deliver_id n) (numbers 0 k) m h in
+        subst IsSmall e (small (deliver_id n j) (id-small j (number-has k j d)))
 
   pub made-printable : IsPrintableHPlan (made_plan k)
   made-printable = record {
     primitives = each-all IsPrintableLine (made_plan k).primitives (each-of_flat IsPrintableLine primitives_for k primitives-printable);
-    root = each-all IsSmall (made_plan k).root (root-printable (primitive_count k) (omega arith));
-    nodes = each-all IsPrintableNode (made_plan k).nodes (each-of_flat IsPrintableNode (nodes_for (primitive_count k)) k (nodes-printable (primitive_count k) (omega arith)));
+    root = each-all IsSmall (made_plan k).root (root-printable n first);
+    nodes = each-all IsPrintableNode (made_plan k).nodes (each-of_flat IsPrintableNode (nodes_for n) k (nodes-printable n first));
   }
+    where
+      n : ℕ
+      n = primitive_count k
+
+      first : n < 3300
+      first = omega arith

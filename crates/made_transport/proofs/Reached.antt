@@ -11,7 +11,9 @@ use Rattle.hplan_text.specs.declared.values.HPlan.{HPlan}
 use Rattle.hplan_text.specs.HPlanFaults.{Reaches, lists, leads}
 use Rattle.hplan_text.specs.Printable.{line_id, node_id, task_ids, listed_by, all_ids}
 use Rattle.hplan_text.proofs.LeastFound.{has-split, has-left, has-right}
-use Rattle.made_transport.specs.Made.{primitives_for, deliver_id, delivers, gets_back, goes_there, gets_on, nodes_for, primitive_count, made_plan}
+use Rattle.made_transport.specs.Made.{drive, pick_up, drop_there, primitives_for, deliver_id}
+use Rattle.made_transport.specs.Made.{delivers, gets_back, goes_there, gets_on, nodes_for, primitive_count}
+use Rattle.made_transport.specs.Made.{made_plan}
 
 -- members of a list that is joined of one for each element
 pub has-to_flat : {X Y : Type 0} (f : X → List Y) (xs : List X) (x : X) (y : Y) → Has xs x → Has (f x) y → Has (flat_map f xs) y
@@ -33,8 +35,11 @@ pub number-has : (k j : ℕ) → Has (numbers 0 k) j → j < k
 number-has k j h = let (a, b) = numbers_to 0 k j (has-contains (numbers 0 k) j h) in omega (arith, b)
 
 -- what holds for each package holds of all
-pub each-of_flat : {Y : Type 0} (P : Y → Type 0) (f : ℕ → List Y) (k : ℕ) → ((j : ℕ) → j < k → EachIs P (f j)) → (y : Y) → Has (flat_map f (numbers 0 k)) y → P y
-each-of_flat P f k each y h = let (j, d, e) = has-of_flat f (numbers 0 k) y h in each-has P (f j) y (each j (number-has k j d)) e
+pub each-of_flat : {Y : Type 0} (P : Y → Type 0) (f : ℕ → List Y) (k : ℕ) → ((j : ℕ) → j < k → EachIs P (f j)) → (y : Y)
+    → Has (flat_map f (numbers 0 k)) y → P y
+each-of_flat P f k each y h =
+    let (j, d, e) = has-of_flat f (numbers 0 k) y h in
+    each-has P (f j) y (each j (number-has k j d)) e
 
 -- the ids that nodes list
 pub has-listed : (xs : List HNode) (x : HNode) (m : ℕ) → Has xs x → Has x.ids m → Has (listed_by xs) m
@@ -84,18 +89,37 @@ module _ (k : ℕ) where
     from_back : (m : ℕ) → Has ((4 * i + 3) ∷ (n + 5 * i + 6) ∷ []) m → Is m
     from_back m h = leads back (node_is (suc i) l back (inr (inl refl))) (from_deliver (suc i) l (n + 5 * i + 5) (inl refl)) h
 
+  lines_reached : (j : ℕ) → j < k
+      → EachIs (λ (x : HLine). Is (line_id x)) (pick_up j ∷ drive (4 * j + 1) (codes "l0") (codes "l1") ∷ drop_there j ∷ [])
+  lines_reached j l = (
+    from_deliver j l (4 * j) (inr (inl refl)),
+    (from_on j l (4 * j + 1) (inl refl), (from_deliver j l (4 * j + 2) (inr (inr (inr (inl refl)))), tt)),
+  )
+
   primitives_reached : (j : ℕ) → j < k → EachIs (λ (x : HLine). Is (line_id x)) (primitives_for j)
-  primitives_reached zero l = (from_deliver 0 l (4 * 0) (inr (inl refl)), (from_on 0 l (4 * 0 + 1) (inl refl), (from_deliver 0 l (4 * 0 + 2) (inr (inr (inr (inl refl)))), tt)))
-  primitives_reached (suc i) l = (from_back i l (4 * i + 3) (inl refl), (from_deliver (suc i) l (4 * suc i) (inr (inl refl)), (from_on (suc i) l (4 * suc i + 1) (inl refl), (from_deliver (suc i) l (4 * suc i + 2) (inr (inr (inr (inl refl)))), tt))))
+  primitives_reached zero l = lines_reached 0 l
+  primitives_reached (suc i) l = (from_back i l (4 * i + 3) (inl refl), lines_reached (suc i) l)
+
+  on_reached : (j : ℕ) → j < k → Is (n + 5 * j + 1) → EachIs (λ (x : HNode). Is (node_id x)) (gets_on n j)
+  on_reached j l there = (there, (on j l, (from_on j l (n + 5 * j + 3) (inr (inl refl)), tt)))
 
   nodes_reached : (j : ℕ) → j < k → EachIs (λ (x : HNode). Is (node_id x)) (nodes_for n j)
-  nodes_reached zero l = (delivered 0 l, (subst Is (let e : n + 1 ≡ n + 5 * 0 + 1 = omega arith in e) (from_deliver 0 l (n + 1) (inl refl)), (on 0 l, (from_on 0 l (n + 5 * 0 + 3) (inr (inl refl)), tt))))
-  nodes_reached (suc i) l = (delivered (suc i) l, (from_deliver (suc i) l (n + 5 * i + 5) (inl refl), (subst Is (let e : n + 5 * i + 6 ≡ n + 5 * suc i + 1 = omega arith in e) (from_back i l (n + 5 * i + 6) (inr (inl refl))), (on (suc i) l, (from_on (suc i) l (n + 5 * suc i + 3) (inr (inl refl)), tt)))))
+  nodes_reached zero l =
+      let e : n + 1 ≡ n + 5 * 0 + 1 = omega arith in
+      (delivered 0 l, on_reached 0 l (subst Is e (from_deliver 0 l (n + 1) (inl refl))))
+  nodes_reached (suc i) l =
+      let e : n + 5 * i + 6 ≡ n + 5 * suc i + 1 = omega arith in
+      let there = subst Is e (from_back i l (n + 5 * i + 6) (inr (inl refl))) in
+      (delivered (suc i) l, (from_deliver (suc i) l (n + 5 * i + 5) (inl refl), on_reached (suc i) l there))
 
   pub all_reached : (m : ℕ) → Has (task_ids (made_plan k)) m → Is m
   all_reached m h = elim (has-split (map line_id (made_plan k).primitives) (map node_id (made_plan k).nodes) m h) [
-    | inl g ↦ (let (x, d, e) = has-of_map line_id (made_plan k).primitives m g in subst Is e (each-of_flat (λ (x : HLine). Is (line_id x)) primitives_for k primitives_reached x d))
-    | inr g ↦ (let (x, d, e) = has-of_map node_id (made_plan k).nodes m g in subst Is e (each-of_flat (λ (x : HNode). Is (node_id x)) (nodes_for n) k nodes_reached x d))
+    | inl g ↦ (
+        let (x, d, e) = has-of_map line_id (made_plan k).primitives m g in
+        subst Is e (each-of_flat (λ (x : HLine). Is (line_id x)) primitives_for k primitives_reached x d))
+    | inr g ↦ (
+        let (x, d, e) = has-of_map node_id (made_plan k).nodes m g in
+        subst Is e (each-of_flat (λ (x : HNode). Is (node_id x)) (nodes_for n) k nodes_reached x d))
   ]
 
 -- what is reached is listed

@@ -29,7 +29,8 @@ module _ (k : ℕ) (few : k ≤ 819) where
       omega (arith, a, b, c)
 
   each-short : (front back : List ℕ) (m : ℕ) → length front + (3 + length back) ≡ m → length (each_package k front back) ≤ k * m
-  each-short front back m e = flat-short (λ i. front ++ decimal i ++ back) m 1 k (λ i l. (let h = one-short front back i l in omega (arith, h, e)))
+  each-short front back m e =
+      flat-short (λ i. front ++ decimal i ++ back) m 1 k (λ i l. (let h = one-short front back i l in omega (arith, h, e)))
 
   abbrev head : List ℕ
   head = codes "(define (problem made) (:domain transport) (:objects l0 l1 - location v1 - vehicle"

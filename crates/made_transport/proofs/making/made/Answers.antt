@@ -16,7 +16,8 @@ returns-clause-printable c = subst IsPrintableHPlan (sym c.in_ok-plan.ensures) (
 
 pub returns-clause-few : goal.returns-clause-few
 returns-clause-few c =
-    subst (λ (plan : HPlan). length plan.primitives + length plan.nodes ≤ most_lines) (sym c.in_ok-plan.ensures) (lines-few c.args.k c.requires.few)
+    subst (λ (plan : HPlan). length plan.primitives + length plan.nodes ≤ most_lines) (sym c.in_ok-plan.ensures)
+    (lines-few c.args.k c.requires.few)
 
 pub returns-clause-short : goal.returns-clause-short
 returns-clause-short c = (

@@ -13,7 +13,8 @@ three start done f d b x y z into v e g w h i =
 
 pub loop-i-preserved : goal.loop-i-preserved
 loop-i-preserved c =
-    three c.args.into.now (each_package c.loop-i.i c.args.front.now c.args.back.now) c.args.front.now (decimal (c.loop-i.i + 1)) c.args.back.now
-    _ _ _ _ c.as_bytes.result.now c.loop-i.invariant c.in_ok-push_all.ensures.pushed (c.as_bytes.ensures.value ∙ c.format.ensures.text)
+    three c.args.into.now (each_package c.loop-i.i c.args.front.now c.args.back.now) c.args.front.now (decimal (c.loop-i.i + 1))
+    c.args.back.now _ _ _ _ c.as_bytes.result.now c.loop-i.invariant c.in_ok-push_all.ensures.pushed
+    (c.as_bytes.ensures.value ∙ c.format.ensures.text)
     c.in_ok-push_all-2.ensures.pushed c.in_ok-push_all-3.ensures.pushed
     ∙ ap (λ v. c.args.into.now ++ v) (sym (each-more c.loop-i.i c.args.front.now c.args.back.now))
