@@ -18,12 +18,13 @@ use Rattle.tree_core.specs.declared.label.Label.TheVariants.{Primitive, Check, A
 use Rattle.tree_core.specs.declared.growth.Growth as Grown
 use Rattle.tree_core.specs.declared.growth.Scheduled.{Scheduled}
 use Rattle.tree_core.specs.Tables.{Row, table, IsWay, IsRow}
-use Rattle.tree_core.specs.Growths.{Growth, IsUnder, IsTreeOf}
+use Rattle.tree_core.specs.Growths.{Growth, IsUnder, IsTreeOf, IsUnjoined}
 use Rattle.tree_core.specs.Labels.{labels, label_of, growth_of, growths_of, labelled, labelled_node}
 use Rattle.tree_core.specs.Runs.{label_in, IsRun}
 use Rattle.tree_core.proofs.Gets.{get_some, get_cases, mapped}
 use Rattle.tree_core.proofs.Siblings.{as_many, row_of_node, place_of_node, node_address, first_child}
 use Rattle.tree_core.proofs.GrowthLaws.{growths_have_one_tree}
+use Rattle.tree_core.proofs.Unjoined.{unjoined_have_no_tree}
 use Rattle.tree_core.proofs.Labels.{labels_tell_tree}
 use Rattle.tree_core.proofs.Labelled.{label_at-labelled, preorder-labelled, labelled_address}
 use Rattle.schedules.specs.latest.Relabelled as relabelling
@@ -222,6 +223,16 @@ module _ (c : Compiled) (list : List (List ℕ)) (rows : List (Row labels)) wher
   grown_is_chosen soundly n gs are within none run r tree values s =
       let all = subst (λ z. AreGrowthsBefore c list rows z gs) (at_end n within none) are in
       grown_is soundly (closed_by gs all) tree values s gs all run r
+
+  -- rows whose growths are not joined are those of no tree
+  pub unjoined_is_chosen : IsSoundlyCompiled c → (n : ℕ) (gs : List Grown.Growth) → AreGrowthsBefore c list rows n gs → n ≤ length rows
+      → None ≡ label_in rows n → (k : ℕ) → IsUnjoined labels (growths_of gs) k → (made : Result (List (Row labels)) Memory)
+      → IfOk made (IsChosenTree c rows list)
+  unjoined_is_chosen soundly n gs are within none k u (Err m) = tt
+  unjoined_is_chosen soundly n gs are within none k u (Ok made) = λ tree values s. (
+      let all = subst (λ z. AreGrowthsBefore c list rows z gs) (at_end n within none) are in
+      absurd (unjoined_have_no_tree labels (growths_of gs) k (labelled c (chosen c tree values)) (preorder (network c) tree) u
+      (is_tree soundly (closed_by gs all) tree values s gs all)))
 
   -- the tree that has the values already
   kept_is_chosen : IsSoundlyCompiled c → HasValues c list rows → IsChosenTree c rows list rows

@@ -8,7 +8,7 @@ ghost use Rattle.chosen_trees.specs.Growing.{values_in, asking_from, new_label, 
 use htn_base::{List, Memory};
 use plan_model::Compiled;
 use std::alloc::Global;
-use tree_core::{Growth, Label, Tree, grow};
+use tree_core::{GrowError, Growth, Label, Tree, grow};
 
 /// The tree in which each method has the values at the place of the node that asks for them: its check, or else itself. `values`: by the
 /// addresses of nodes.
@@ -85,10 +85,11 @@ fn grown(alloc: Global, c: &Compiled, tree: &Tree, values: &[List<u32>]) -> Resu
         })?;
         address += 1;
     }
-    // The nodes are joined as they were.
+    // The nodes are joined as they were: where they are not, the rows are no tree's, and stay as they are.
     match grow(alloc, growths) {
         Ok(run) => Ok(run.into_tree()),
-        Err(_) => Err(Memory),
+        Err(GrowError::Memory) => Err(Memory),
+        Err(GrowError::Unjoined { growth: _ }) => tree.copy(alloc),
     }
 }
 

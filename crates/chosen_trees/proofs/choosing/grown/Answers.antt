@@ -1,10 +1,11 @@
 use Rattle.std.proofs.Common.{◌+◌, ap, sym, subst, ◌∙◌}
 use Rattle.std.specs.Option.{unwrap_or}
 use Rattle.tree_core.specs.declared.growth.Growth.{Growth}
-use Rattle.tree_core.specs.Labels.{label_of}
+use Rattle.tree_core.specs.Labels.{label_of, growths_of}
+use Rattle.tree_core.specs.Runs.{IsRefused}
 use Rattle.chosen_trees.specs.ChosenTrees.{IsChosenTree}
 use Rattle.chosen_trees.specs.Growing.{AreGrowthsBefore}
-use Rattle.chosen_trees.proofs.ChosenRows.{one_more, label_within, grown_is_chosen}
+use Rattle.chosen_trees.proofs.ChosenRows.{one_more, label_within, grown_is_chosen, unjoined_is_chosen}
 use Rattle.chosen_trees.proofs.choosing.grown.Goals as goal
 
 pub loop-label-preserved : goal.loop-label-preserved
@@ -33,4 +34,11 @@ returns-in-Ok c = record {
   tree = subst (IsChosenTree c.args.c.now c.args.tree.now c.args.values.now) (sym c.into_tree.ensures.tree)
       (grown_is_chosen c.args.c.now c.args.values.now c.args.tree.now c.requires.soundly c.loop-label.address c.loop-label.growths
       c.loop-label.invariant.growths c.loop-label.invariant.within c.in_default.ensures.label c.in-Ok.run' c.in-Ok.ensures.tree);
+}
+
+pub returns-in-Err-Unjoined : goal.returns-in-Err-Unjoined
+returns-in-Err-Unjoined c = record {
+  tree = unjoined_is_chosen c.args.c.now c.args.values.now c.args.tree.now c.requires.soundly c.loop-label.address c.loop-label.growths
+      c.loop-label.invariant.growths c.loop-label.invariant.within c.in_default.ensures.label c.in-Err-Unjoined.field-0-0
+      (subst (IsRefused (growths_of c.loop-label.growths)) c.in-Err-Unjoined.field-0-is c.in-Err-Unjoined.ensures.unjoined) c.copy.result;
 }
