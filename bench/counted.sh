@@ -3,7 +3,7 @@
 # actions at one slot; the smallest problem at 65,536 slots in style adl; 54 actions at 65,536 slots in style flat; Transport with
 # 2,000 packages at 4,096 slots; 500 methods of 40 subtasks; 140,000 facts; and `validate` of 50,000 steps (bench/validate.sh has
 # the same with a million); `decode` of 25,000 uses of a tail-recursive method, and of the deliveries of 200 packages, and `encode` of
-# the trees of both. Wants ./htn, as examples/transport/run leaves it, and valgrind. A line each: the instructions.
+# the trees of both; and `make 200`. Wants ./htn, as examples/transport/run leaves it, and valgrind. A line each: the instructions.
 #
 # Counted, in the order of the cases, millions: 19.7, 97.8, 756.6, 408.0, 303.0, 285.5, 215.2, `decode` 317.5, 24.6, and `encode` 470.6 and
 # 41.1. Before a tree that has its values already was copied, and a slot's word had its room from the first: `encode` 580.6, 44.5. Before words of
@@ -146,3 +146,4 @@ counted "decode of 200 packages, 2,199 steps" decode "$transport/domain.hddl" "$
 counted "encode of 25,000 uses, 50,001 lines" encode "$work/uses_domain" "$work/task" "$work/uses_tree"
 "$top/htn" decode "$transport/domain.hddl" "$work/made" "$work/made_plan" --bound 204 >"$work/made_tree"
 counted "encode of 200 packages" encode "$transport/domain.hddl" "$work/made" "$work/made_tree"
+counted "make 200" make 200 "$work/od" "$work/op"
