@@ -3,28 +3,10 @@
 # actions at one slot; the smallest problem at 65,536 slots in style adl; 54 actions at 65,536 slots in style flat; Transport with
 # 2,000 packages at 4,096 slots; 500 methods of 40 subtasks; 140,000 facts; and `validate` of 50,000 steps (bench/validate.sh has
 # the same with a million); `decode` of 25,000 uses of a tail-recursive method, and of the deliveries of 200 packages, and `encode` of
-# the trees of both. Wants ./htn, as examples/transport/run leaves it, and valgrind. A line each: the instructions.
+# the trees of both; and `make 200`. Wants ./htn, as examples/transport/run leaves it, and valgrind. A line each: the instructions.
 #
 # Counted, in the order of the cases, millions: 19.7, 97.8, 756.6, 408.0, 303.0, 285.5, 215.2, `decode` 317.5, 24.6, and `encode` 470.6 and
-# 41.1. Before a tree that has its values already was copied, and a slot's word had its room from the first: `encode` 580.6, 44.5. Before words of
-# one hash were found in buckets of four: 19.6, 81.4, 740.6, 405.3, 330.7, 279.0, 210.1. Before words of one hash were found in
-# order and an answer was an output: 19.4, 81.2, 740.4, 405.4, 326.8, 277.9, 211.3. Before small functions of one call stood in
-# their callers, for the third time: 19.3, 80.9, 738.4, 405.3, 326.3, 276.0, 213.9; for the second: 19.1, 81.6, 747.9, 413.2, 331.7, 281.2,
-# 215.5; for the first: 19.1, 81.7, 748.0, 412.9, 329.7, 283.6, 215.5.
-# Before words were found by a hash of all
-# their bytes, and types wrote how they are dropped: 20.9, 114.8, 779.4, 419.5, 305.5, 283.1,
-# 214.4. Before a name table was a list of words and
-# a map of their numbers, which hashes a word byte by byte and keeps it a second time, and where a word is found by ends of four bytes each:
-# 19.7, 85.8, 796.1, 434.1, 336.9, 279.0, 211.6. Before values kept their words in a list,
-# where a name's word is looked for by two numbers and not in a table: with lists of terms made with their room, and not those of
-# subtasks: 18.3, 76.3, 669.2, 384.1, 318.9, 281.6, 211.0. With those of subtasks alone, as it is now, the methods 317.2. With both: 18.3, 76.2, 669.2,
-# 384.0, 316.8, 281.6, 211.0. With neither: 18.3, 76.3, 667.4, 384.1, 294.3, 281.6, 211.0. Before words stood in their table and
-# were hashed whole: 20.5, 114.2, 685.2, 382.1, 314.8, 280.0, 209.9. Before a formula and an effect went through one batch and
-# rows stood on the heap: 20.7, 114.0, 684.1, 385.8, 329.9, 273.0, 209.8. Before facts stood in rows of few bytes and were read by
-# positions, in three times the memory: 20.7, 102.7, 672.8, 383.1, 329.3, 205.3, 211.5. Before facts stood in two flat lists, were
-# met by their numbers and their words by marks, and texts were read with their index in one pass: 21.5, 120.4, 688.5, 389.3,
-# 340.8, 403.0, 210.6. Before names of slots were expected, items of lists were put in batches and deletions went from number to
-# number: 21.4, 190.6, 1,608.1, 394.9, 347.0, 403.0, 292.5.
+# 41.1. `make 200` is not counted yet; at most 15 are wanted of it.
 set -euo pipefail
 top=$(cd "$(dirname "$0")/.." && pwd)
 work=$(mktemp -d)
@@ -146,3 +128,4 @@ counted "decode of 200 packages, 2,199 steps" decode "$transport/domain.hddl" "$
 counted "encode of 25,000 uses, 50,001 lines" encode "$work/uses_domain" "$work/task" "$work/uses_tree"
 "$top/htn" decode "$transport/domain.hddl" "$work/made" "$work/made_plan" --bound 204 >"$work/made_tree"
 counted "encode of 200 packages" encode "$transport/domain.hddl" "$work/made" "$work/made_tree"
+counted "make 200" make 200 "$work/od" "$work/op"

@@ -1,0 +1,6 @@
+(define (problem made)
+ (:domain transport)
+ (:objects)
+ (:init (htn_top htn_s1) (htn_free htn_s2) (htn_free htn_s3) (htn_free htn_s4) (htn_free htn_s5) (htn_free htn_s6) (htn_free htn_s7) (htn_free htn_s8) (htn_free htn_s9) (htn_free htn_s10) (htn_free htn_s11) (htn_free htn_s12) (htn_free htn_s13) (htn_free htn_s14) (htn_free htn_s15) (road l0 l1) (road l1 l0) (at v1 l0) (at p1 l0) (at p2 l0) (at p3 l0))
+ (:goal (and (forall (?htn_x - htn_slot) (htn_free ?htn_x))))
+)
