@@ -7,9 +7,11 @@
 //! `ground_tail_recursive_has_one_bound`). A search for what is reached goes by `forced_lists_grow` and `needed_atoms_are_reached`.
 #![tactic(auto)]
 
+mod ground_error;
 mod laws;
 mod networks;
 
+pub use ground_error::{GroundEdge, GroundError};
 pub use laws::{
     finite_has_one_bound, finite_is_tail_recursive_or_not, forced_lists_grow,
     ground_tail_recursive_has_one_bound, ground_tail_recursive_or_bad_cycle,
