@@ -16,6 +16,6 @@ pub use laws::{
     finite_has_one_bound, finite_is_tail_recursive_or_not, forced_lists_grow,
     ground_tail_recursive_has_one_bound, ground_tail_recursive_or_bad_cycle,
     needed_atoms_are_reached, nodes_are_reached, reached_exactly, restricted_width_is_bounded,
-    solutions_are_within_the_ground_bound,
+    searches_are_sound, solutions_are_within_the_ground_bound,
 };
 pub use networks::OrderedNetwork;
