@@ -10,6 +10,8 @@
 mod ground_error;
 mod laws;
 mod networks;
+mod relaxed;
+mod row_set;
 
 pub use ground_error::{GroundEdge, GroundError};
 pub use laws::{
