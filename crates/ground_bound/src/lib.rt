@@ -7,7 +7,9 @@
 //! `ground_tail_recursive_has_one_bound`). A search for what is reached goes by `forced_lists_grow` and `needed_atoms_are_reached`.
 #![tactic(auto)]
 
+mod found;
 mod ground_error;
+mod in_force;
 mod laws;
 mod networks;
 mod relaxed;
