@@ -1,0 +1,25 @@
+//! The bound over what is reached: ground tasks, ground actions and ground methods in place of schemas.
+//!
+//! It stands on `htn_base`, on `plan_model` with its `task_networks` and `plan_meaning`, and on the laws of `slot_machine`. What is
+//! reached are least lists of ground methods and of atoms, and there is exactly one number of it (`reached_exactly`). The contract
+//! used above: no schedule of a solution has more pending at any time than the ground bound (`solutions_are_within_the_ground_bound`),
+//! and a compiled problem has either exactly one ground bound or exactly one named bad cycle (`ground_tail_recursive_or_bad_cycle`,
+//! `ground_tail_recursive_has_one_bound`). A search for what is reached goes by `forced_lists_grow` and `needed_atoms_are_reached`.
+#![tactic(auto)]
+
+mod found;
+mod ground_error;
+mod in_force;
+mod laws;
+mod networks;
+mod relaxed;
+mod row_set;
+
+pub use ground_error::{GroundEdge, GroundError};
+pub use laws::{
+    finite_has_one_bound, finite_is_tail_recursive_or_not, forced_lists_grow,
+    ground_tail_recursive_has_one_bound, ground_tail_recursive_or_bad_cycle,
+    needed_atoms_are_reached, nodes_are_reached, reached_exactly, restricted_width_is_bounded,
+    searches_are_sound, solutions_are_within_the_ground_bound,
+};
+pub use networks::OrderedNetwork;
