@@ -13,6 +13,7 @@ mod refused;
 mod rows;
 mod texts;
 mod transport;
+mod uses;
 mod validations;
 mod words;
 

@@ -89,7 +89,7 @@ fn smallest_problem(rt: HostRuntime) {
     all_told(&rt, rt.alloc(), SMALLEST);
 }
 
-const USES: &str =
+pub(super) const USES: &str =
     "(define (domain d) (:task t :parameters ()) (:method m :parameters () :task (t) :ordered-subtasks (and (a) (t))) (:method e :parameters () :task (t) :subtasks ()) (:action a :parameters ()))";
 
 /// A method that calls its task last is used 100,000 times, and the task is then left pending; and there are too many steps.
