@@ -1,4 +1,5 @@
 //! The commands, each over the smallest problem.
+use crate::made::{MADE_DOMAIN, MADE_PROBLEM};
 use crate::texts::{DOMAIN, PLAN, PRINTED_DOMAIN, PRINTED_PROBLEM, PROBLEM, TREE};
 
 /// What a text is read as.
@@ -110,5 +111,12 @@ pub(crate) const COMMANDS: &[Command] = &[
         reads: &[PD, PP, STEPS],
         writes: &[],
         tells: "valid\n",
+    },
+    // make
+    Command {
+        words: &["make", "1", "od", "op"],
+        reads: &[],
+        writes: &[("od", MADE_DOMAIN), ("op", MADE_PROBLEM)],
+        tells: "packages 1\nactions 8\nbound 5\nwidth 4\nsteps 10\n",
     },
 ];

@@ -145,6 +145,10 @@ const UNREAD: &[(Status, &str, &[&[&str]])] = &[
             &["decode", "d", "p", "plan", "--bound"],
             &["encode", "d", "p", "hplan", "--bound", "0"],
             &["validate", "d", "p", "plan", "--bound", "1"],
+            // make
+            &["make", "0", "od", "op"],
+            &["make", "5", "od", "od"],
+            &["make", "", "od", "op"],
         ],
     ),
     (
@@ -155,6 +159,11 @@ const UNREAD: &[(Status, &str, &[&[&str]])] = &[
             &["decode", "d", "p", "plan", "--bound", "65537"],
             &["encode", "d", "p", "hplan", "--bound", "65537"],
         ],
+    ),
+    (
+        Status::Limit,
+        "limit slots 4100\n",
+        &[&["make", "820", "od", "op"]],
     ),
 ];
 

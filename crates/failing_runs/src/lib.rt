@@ -14,6 +14,8 @@ mod failures;
 #[cfg(test)]
 mod hostile;
 #[cfg(test)]
+mod made;
+#[cfg(test)]
 mod outside;
 #[cfg(test)]
 mod runs;
