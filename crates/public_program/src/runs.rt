@@ -9,11 +9,11 @@ use std::process::Abort;
 mod bounds;
 mod colours;
 mod decodings;
-mod failures;
 mod refused;
 mod rows;
 mod texts;
 mod transport;
+mod uses;
 mod validations;
 mod words;
 
@@ -42,22 +42,11 @@ enum Before {
     Spelled(Source, Source, Source),
 }
 
-/// The call that fails, counted from 0.
-#[derive(Clone, Copy)]
-enum Failing {
-    Nothing,
-    Get(u32),
-    Put(u32),
-    Output(u32),
-    Error(u32),
-}
-
 /// A run: the files before it; its words, in groups; how it ends, with what is on standard output and standard error; and
 /// texts of names after it, or that nothing is held.
 #[derive(Clone, Copy)]
 struct Row {
     before: Before,
-    failing: Failing,
     command: &'static [&'static str],
     options: &'static [&'static str],
     more: &'static [&'static str],
@@ -122,16 +111,6 @@ impl Outside {
                 self.add("p.hddl", problem)?;
                 self.add("plan", plan)
             }
-        }
-    }
-
-    fn fail(&mut self, failing: Failing) -> Result<(), Memory> {
-        match failing {
-            Failing::Nothing => Ok(()),
-            Failing::Get(k) => self.files.fail_get(k),
-            Failing::Put(k) => self.files.fail_put(k),
-            Failing::Output(k) => self.out.fail_write(k),
-            Failing::Error(k) => self.err.fail_write(k),
         }
     }
 
@@ -224,7 +203,6 @@ fn replay(rt: &impl Abort, alloc: Global, row: &Row) {
 
 fn replay_in(rt: &impl Abort, outside: &mut Outside, row: &Row) -> Result<(), Memory> {
     outside.add_all(&row.before)?;
-    outside.fail(row.failing)?;
     let status = outside.run(row)?;
     assert_eq!(rt; status, row.status);
     outside.compare(rt, row);

@@ -1,7 +1,7 @@
 //! Numbers of slots that are given, and bounds that are computed.
 use super::rows::{BOUNDED, Bounded};
 use super::texts::{DOMAIN, PROBLEM};
-use super::{BOUND, Before, Failing, Row, Source, TRANSLATE, UNWRITTEN, replay};
+use super::{BOUND, Before, Row, Source, TRANSLATE, UNWRITTEN, replay};
 use htn_cli::Status;
 use std::alloc::Global;
 use std::process::Abort;
@@ -25,7 +25,6 @@ fn has_slots(
         alloc,
         &Row {
             before: Before::Both(Source::Text(DOMAIN), Source::Text(PROBLEM)),
-            failing: Failing::Nothing,
             command: TRANSLATE,
             options: slots,
             more: manner,
@@ -87,7 +86,6 @@ fn is_past(rt: &impl Abort, alloc: Global, slots: &'static [&'static str], err: 
         alloc,
         &Row {
             before: Before::Nothing,
-            failing: Failing::Nothing,
             command: TRANSLATE,
             options: slots,
             more: &[],
@@ -112,7 +110,6 @@ fn is_bounded(rt: &impl Abort, alloc: Global, row: &Bounded) {
         alloc,
         &Row {
             before: Before::Both(row.domain, Source::Text(row.problem)),
-            failing: Failing::Nothing,
             command: BOUND,
             options: &[],
             more: &[],

@@ -1,6 +1,6 @@
 //! Plans of the smallest problem and long plans, decoded: by hand. What two other programs made of random problems is in `plan_rows`.
 use super::texts::{DOMAIN, PROBLEM};
-use super::{Before, DECODE, Failing, Row, Source, UNWRITTEN, replay};
+use super::{Before, DECODE, Row, Source, UNWRITTEN, replay};
 use htn_cli::Status;
 use std::alloc::Global;
 use std::process::Abort;
@@ -19,7 +19,7 @@ struct Spelled {
 
 const TREE: &str = "==>\n0 a\nroot 1\n1 t -> m 0\n<==\n";
 
-pub(super) const PLAN: &str = "(htn_start htn_s1) (htn_m_m htn_s1) (a htn_s1)";
+const PLAN: &str = "(htn_start htn_s1) (htn_m_m htn_s1) (a htn_s1)";
 
 /// The smallest problem, by hand.
 const SMALLEST: &[Spelled] = &[
@@ -72,7 +72,6 @@ fn all_told(rt: &impl Abort, alloc: Global, rows: &[Spelled]) {
                     Source::Text(row.problem),
                     row.plan,
                 ),
-                failing: Failing::Nothing,
                 command: DECODE,
                 options: row.options,
                 more: &[],
@@ -90,7 +89,7 @@ fn smallest_problem(rt: HostRuntime) {
     all_told(&rt, rt.alloc(), SMALLEST);
 }
 
-const USES: &str =
+pub(super) const USES: &str =
     "(define (domain d) (:task t :parameters ()) (:method m :parameters () :task (t) :ordered-subtasks (and (a) (t))) (:method e :parameters () :task (t) :subtasks ()) (:action a :parameters ()))";
 
 /// A method that calls its task last is used 100,000 times, and the task is then left pending; and there are too many steps.

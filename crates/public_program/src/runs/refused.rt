@@ -1,7 +1,7 @@
 //! Texts that are refused, by both commands with the same line.
 use super::rows::{CUT_DOMAIN, CUTS, REFUSED, Refused};
 use super::texts::PROBLEM;
-use super::{BOUND, Before, Failing, Row, Source, TRANSLATE, UNWRITTEN, replay};
+use super::{BOUND, Before, Row, Source, TRANSLATE, UNWRITTEN, replay};
 use htn_base::Memory;
 use htn_cli::Status;
 use std::alloc::Global;
@@ -18,7 +18,6 @@ fn refuses_by(rt: &impl Abort, alloc: Global, row: &Refused, command: &'static [
         alloc,
         &Row {
             before: Before::Both(row.domain, row.problem),
-            failing: Failing::Nothing,
             command,
             options: &[],
             more: &[],

@@ -19,12 +19,6 @@ const TWICE: &str = "(define (domain d) (:task t :parameters ()) (:action t :par
 pub(super) const REFUSED: &[Refused] = &[
     // tokens, forms, names
     Refused {
-        domain: Source::Text(""),
-        problem: Source::Text(PROBLEM),
-        status: Status::TextFault,
-        line: "d.hddl:0: fault 5 NotADefine\n",
-    },
-    Refused {
         domain: Source::Text(RESERVED),
         problem: Source::Text(PROBLEM),
         status: Status::TextFault,
@@ -54,12 +48,6 @@ pub(super) const REFUSED: &[Refused] = &[
         line: "d.hddl:65: fault 9 ReservedName\n",
     },
     // the problem's faults
-    Refused {
-        domain: Source::Text(DOMAIN),
-        problem: Source::Text(""),
-        status: Status::TextFault,
-        line: "p.hddl:0: fault 5 NotADefine\n",
-    },
     Refused {
         domain: Source::Text(DOMAIN),
         problem: Source::Text("(define (problem p) (:domain d) (:htn :subtasks (t)))\""),
@@ -101,25 +89,6 @@ pub(super) const REFUSED: &[Refused] = &[
         problem: Source::Text(PROBLEM),
         status: Status::Finding,
         line: "not tail-recursive: t m u n t\n",
-    },
-    // depth
-    Refused {
-        domain: Source::Times(&[("(", 201), (")", 201)]),
-        problem: Source::Text(PROBLEM),
-        status: Status::Limit,
-        line: "limit depth d.hddl:200\n",
-    },
-    Refused {
-        domain: Source::Text(DOMAIN),
-        problem: Source::Times(&[("(", 201), (")", 201)]),
-        status: Status::Limit,
-        line: "limit depth p.hddl:200\n",
-    },
-    Refused {
-        domain: Source::Times(&[("(", 201)]),
-        problem: Source::Text(PROBLEM),
-        status: Status::TextFault,
-        line: "d.hddl:200: fault 2 UnclosedParen\n",
     },
     // types
     Refused {

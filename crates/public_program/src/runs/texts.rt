@@ -1,7 +1,7 @@
 //! The smallest problem: one task, one method, one action. Its printed texts were made by two programs that share nothing with this
 //! one.
 use super::rows::{COSTS_DOMAIN, COSTS_PROBLEM};
-use super::{BOUND, Before, Failing, Row, Source, TRANSLATE, UNWRITTEN, replay, replay_all};
+use super::{BOUND, Before, Row, Source, TRANSLATE, UNWRITTEN, replay, replay_all};
 use htn_cli::Status;
 use std::alloc::Global;
 use std::process::Abort;
@@ -169,7 +169,6 @@ fn prints(rt: &impl Abort, alloc: Global, printed: &Printed, mode: &'static [&'s
         alloc,
         &Row {
             before: Before::Both(Source::Text(DOMAIN), Source::Text(PROBLEM)),
-            failing: Failing::Nothing,
             command: TRANSLATE,
             options: printed.options,
             more: mode,
@@ -197,7 +196,6 @@ const OTHERS: &[Row] = &[
             Source::Text(DOMAIN),
             Source::Text("(define (problem p) (:domain d) (:htn :subtasks ()))"),
         ),
-        failing: Failing::Nothing,
         command: TRANSLATE,
         options: &["--bound", "1"],
         more: &[],
@@ -211,7 +209,6 @@ const OTHERS: &[Row] = &[
     },
     Row {
         before: Before::Both(Source::Text(COSTS_DOMAIN), Source::Text(COSTS_PROBLEM)),
-        failing: Failing::Nothing,
         command: TRANSLATE,
         options: &["--bound", "1"],
         more: &[],
@@ -225,7 +222,6 @@ const OTHERS: &[Row] = &[
     },
     Row {
         before: Before::Both(Source::Text(DOMAIN), Source::Text(PROBLEM)),
-        failing: Failing::Nothing,
         command: BOUND,
         options: &["--checks", "atonce"],
         more: &[],

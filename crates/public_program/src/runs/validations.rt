@@ -1,6 +1,6 @@
 //! Lists that are plans, or none, of two PDDL texts. Each line was found by hand, from the rules for plans and for faults.
 use super::texts::{ONE_SLOT_DOMAIN, ONE_SLOT_PROBLEM};
-use super::{Before, Failing, Row, Source, VALIDATE, replay};
+use super::{Before, Row, Source, VALIDATE, replay};
 use htn_cli::Status;
 use std::alloc::Global;
 use std::process::Abort;
@@ -25,11 +25,6 @@ const OF_THE_SMALLEST: &[Listed] = &[
         plan: "; cost = 3 (unit cost)\n0: (HTN_START HTN_S1)\n1: (HTN_M_M HTN_S1)\n2: (A HTN_S1)\n",
         status: Status::Done,
         err: "",
-    },
-    Listed {
-        plan: "",
-        status: Status::Finding,
-        err: "not a plan: step 1 GoalFalse\n",
     },
     Listed {
         plan: "(htn_start htn_s1) (htn_m_m htn_s1)",
@@ -73,10 +68,10 @@ struct Judged {
     err: &'static str,
 }
 
-pub(super) const COSTS: &str =
+const COSTS: &str =
     "(define (domain d) (:functions (total-cost)) (:action a :parameters () :effect (increase (total-cost) 1)))";
 
-pub(super) const NOTHING: &str = "(define (problem p))";
+const NOTHING: &str = "(define (problem p))";
 
 const TYPED: &str =
     "(define (domain d) (:types red - block) (:constants b - block r - red) (:predicates (seen ?x)) (:action paint :parameters (?r - red) :precondition (forall (?x - object) (seen ?x)) :effect (not (seen ?r))))";
@@ -127,13 +122,6 @@ const JUDGED: &[Judged] = &[
         plan: "(b) (a ?b)",
         status: Status::TextFault,
         err: "plan:7: fault 8 BadForm\n",
-    },
-    Judged {
-        domain: "",
-        problem: NOTHING,
-        plan: "(a)",
-        status: Status::TextFault,
-        err: "pd:0: fault 5 NotADefine\n",
     },
     Judged {
         domain: "(define (domain d) (:task t :parameters ()))",
@@ -238,7 +226,6 @@ pub(super) fn ends(
         alloc,
         &Row {
             before,
-            failing: Failing::Nothing,
             command: VALIDATE,
             options: &[],
             more: &[],

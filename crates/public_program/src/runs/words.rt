@@ -1,6 +1,6 @@
 //! Words that no command has.
 use super::texts::{DOMAIN, PROBLEM};
-use super::{Before, Failing, Row, Source, TRANSLATE, UNWRITTEN, replay};
+use super::{Before, Row, Source, TRANSLATE, UNWRITTEN, replay};
 use htn_cli::Status;
 use std::alloc::Global;
 use std::process::Abort;
@@ -56,7 +56,6 @@ fn refuses(
         alloc,
         &Row {
             before: Before::Both(Source::Text(DOMAIN), Source::Text(PROBLEM)),
-            failing: Failing::Nothing,
             command,
             options,
             more: &[],
