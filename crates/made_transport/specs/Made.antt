@@ -1,7 +1,7 @@
 -- The made problem of k packages: a domain, a problem, and the hierarchical plan that delivers the packages one after the other.
 -- Source: this project's, after Transport, a domain of the International Planning Competition, which it isn't.
 use Rattle.std.specs.Prelude.{ℕ, zero, suc, ◌≡◌, ◌+◌, ◌-◌, ◌*◌, List, [], ◌∷◌, ◌++◌, map, codes, decimal}
-use Rattle.std.specs.List.{concat, flat_map}
+use Rattle.std.specs.List.{flat_map}
 use Rattle.plan_model.specs.task_networks.Spelling.{numbers}
 use Rattle.hplan_text.specs.declared.values.HLine.{HLine}
 use Rattle.hplan_text.specs.declared.values.HNode.{HNode}
@@ -10,7 +10,7 @@ use Rattle.made_transport.specs.declared.values.Made.{Made}
 
 -- the lines, each ended by a newline
 abbrev pub lines_text : List (List ℕ) → List ℕ
-lines_text lines = concat (map (λ line. line ++ 10 ∷ []) lines)
+lines_text lines = flat_map (λ line. line ++ 10 ∷ []) lines
 
 abbrev pub domain_lines : List (List ℕ)
 domain_lines =
@@ -37,7 +37,7 @@ made_domain = lines_text domain_lines
 
 -- for each of the packages 1 to k its number, between these bytes
 abbrev pub each_package : ℕ → (front back : List ℕ) → List ℕ
-each_package k front back = concat (map (λ i. front ++ decimal i ++ back) (numbers 1 k))
+each_package k front back = flat_map (λ i. front ++ decimal i ++ back) (numbers 1 k)
 
 -- the packages stand at l0, and are to be delivered at l1
 abbrev pub made_problem : ℕ → List ℕ
@@ -70,13 +70,15 @@ drives_back (suc i) = drive (4 * i + 3) (codes "l1") (codes "l0") ∷ []
 abbrev pub primitives_for : ℕ → List HLine
 primitives_for j = drives_back j ++ pick_up j ∷ drive (4 * j + 1) (codes "l0") (codes "l1") ∷ drop_there j ∷ []
 
+abbrev pub get_to : ℕ → (place : List ℕ) → HLine
+get_to id place = task id (codes "get-to") (codes "v1" ∷ place ∷ [])
+
 -- the truck is there; or it is once it has made the drive with the first of the two ids
 abbrev pub is_there : ℕ → (place : List ℕ) → HNode
-is_there id place = record { line = task id (codes "get-to") (codes "v1" ∷ place ∷ []); method = codes "m-there"; ids = [] }
+is_there id place = record { line = get_to id place; method = codes "m-there"; ids = [] }
 
 abbrev pub goes_there : ℕ → (place : List ℕ) → (driven there : ℕ) → HNode
-goes_there id place driven there =
-    record { line = task id (codes "get-to") (codes "v1" ∷ place ∷ []); method = codes "m-via"; ids = driven ∷ there ∷ [] }
+goes_there id place driven there = record { line = get_to id place; method = codes "m-via"; ids = driven ∷ there ∷ [] }
 
 -- the nodes' ids begin at n: the first package has four, each other one five
 module _ (n : ℕ) where
@@ -94,18 +96,21 @@ module _ (n : ℕ) where
       record {
         line = task (deliver_id j) (codes "deliver") (package_word j ∷ codes "l1" ∷ []);
         method = codes "m-deliver";
-        ids = back_id j ∷ 4 * j ∷ n + 5 * j + 2 ∷ 4 * j + 2 ∷ [];
+        ids = back_id j ∷ (4 * j) ∷ (n + 5 * j + 2) ∷ (4 * j + 2) ∷ [];
       }
 
   abbrev pub gets_back : ℕ → List HNode
   gets_back zero = []
   gets_back (suc i) = goes_there (n + 5 * i + 5) (codes "l0") (4 * i + 3) (n + 5 * i + 6) ∷ []
 
-  abbrev pub nodes_for : ℕ → List HNode
-  nodes_for j =
-      delivers j ∷ gets_back j
-      ++ is_there (n + 5 * j + 1) (codes "l0") ∷ goes_there (n + 5 * j + 2) (codes "l1") (4 * j + 1) (n + 5 * j + 3)
+  -- the truck is at l0, and gets on to l1
+  abbrev pub gets_on : ℕ → List HNode
+  gets_on j =
+      is_there (n + 5 * j + 1) (codes "l0") ∷ goes_there (n + 5 * j + 2) (codes "l1") (4 * j + 1) (n + 5 * j + 3)
       ∷ is_there (n + 5 * j + 3) (codes "l1") ∷ []
+
+  abbrev pub nodes_for : ℕ → List HNode
+  nodes_for j = delivers j ∷ gets_back j ++ gets_on j
 
 -- the first package has three primitives, each other one four
 abbrev pub primitive_count : ℕ → ℕ

@@ -7,6 +7,10 @@
 #![tactic(auto)]
 
 mod making;
+mod nodes;
+mod parts;
+mod steps;
+mod texts;
 mod values;
 
 pub use making::made;
