@@ -1,8 +1,10 @@
 pub mod OnceTrees
 pub mod OnceValues
 pub mod OncePlaced
+pub mod OnceSpelled
 pub mod OnceFindings
 pub mod Once
+pub mod WithinBound
 pub mod AlikeSchedules
 pub mod AlikeLines
 pub mod AlikeFits

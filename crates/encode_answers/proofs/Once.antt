@@ -1,103 +1,42 @@
 -- A hierarchical plan comes to one text, or to one sentence that says why there is none.
-use Rattle.std.proofs.Common.{ℕ, ◌≡◌, ◌≤◌, ◌<◌, ◌-◌, ◌^◌, ◌∙◌, List, length, map, Option, Some, None, refl, ap, sym, subst, arith}
+use Rattle.std.proofs.Common.{ℕ, ◌≡◌, ◌≤◌, ◌<◌, ◌-◌, ◌^◌, ◌∙◌, List, length, Option, Some, None, refl, ap, sym, subst, arith}
 use Rattle.std.proofs.Math.Nat.{min-le_left}
 use Rattle.htn_base.specs.Limits.{most_slots}
 use Rattle.text_forms.specs.sheets.Sheets.{capped}
 use Rattle.plan_model.specs.declared.options.Checks.{Checks}
-use Rattle.plan_model.specs.declared.steps.GroundAction.{GroundAction}
 use Rattle.plan_model.specs.declared.values.Hddl.{Hddl}
 use Rattle.plan_model.specs.declared.values.Compiled.{Compiled}
-use Rattle.plan_model.specs.task_networks.Lawful.{IsLawful}
-use Rattle.plan_model.specs.task_networks.Net.{Net}
-use Rattle.plan_model.specs.task_networks.Tree.{Tree, Address}
-use Rattle.plan_model.specs.task_networks.Pending.{IsWidth}
-use Rattle.plan_model.specs.task_networks.Spelling.{Act}
-use Rattle.plan_model.specs.plan_meaning.Network.{network}
-use Rattle.plan_model.specs.plan_meaning.Solution.{top_work}
-use Rattle.plan_model.specs.plan_meaning.SpelledPlan.{step_of}
-use Rattle.plan_model.proofs.plan_meaning.CompiledNetworks.{prepared}
-use Rattle.plan_model.proofs.task_networks.ScheduleLaws.{prepared_is_lawful}
 use Rattle.hplan_text.specs.declared.values.HPlan.{HPlan}
 use Rattle.hplan_text.specs.Printable.{IsSoundHPlan}
-use Rattle.schedules.specs.ruled.FirstFreeLaws.{SpellsLowest}
-use Rattle.schedules.proofs.ruled.FirstFree.{one_lowest_list}
 use Rattle.plan_encoder.specs.Laws.{IsOf}
-use Rattle.placements.specs.Placement.{IsPlaced}
 use Rattle.step_texts.specs.declared.text.StepText.{StepText}
 use Rattle.step_texts.specs.declared.text.StepText.TheVariants.{Whole, TooLong, NoMatch, NotExecutable, GoalFalse, NoPlacement, NeedsBound, TooWide}
-use Rattle.step_texts.specs.StepTexts.{steps_text, slots_for, HasWidth, IsSpelled, IsTextOf, IsStepText}
+use Rattle.step_texts.specs.StepTexts.{steps_text, slots_for, HasWidth, IsTextOf, IsStepText}
 use Rattle.encode_answers.specs.EncodeLaws.{EachIsEncodedOnce}
-use Rattle.encode_answers.proofs.OncePlaced.{placed_once}
+use Rattle.encode_answers.proofs.OnceSpelled.{one_width, its_width, one_list}
 use Rattle.encode_answers.proofs.OnceFindings.{Stops, stops_once, unmatched_stops, failing_stops, missing_stops, unplaced_stops, placed_stops, one_unmatched, one_failing}
-
--- an order has one width
-width_once : (N : Net) (w v : ℕ) (tree : Tree N) (order : List Address) → IsWidth N w tree order → IsWidth N v tree order → w ≡ v
-width_once N w v tree order a b =
-    let x = a.within b.taken b.rest b.nodes b.parts b.pending in
-    let y = b.within a.taken a.rest a.nodes a.parts a.pending in
-    let i = a.many in
-    let j = b.many in
-    omega arith
 
 -- what is counted up to a limit is not more than it is
 capped_least : (n : ℕ) → capped n ≤ n
 capped_least n = min-le_left n (2 ^ 64 - 1)
 
 module _ (h : Hddl) (mode : Checks) (c : Compiled) (of : IsOf h mode c) (plan : HPlan) (sound : IsSoundHPlan plan) where
-  abbrev N : Net
-  N = network c
-
-  law : IsLawful N
-  law = prepared_is_lawful N (prepared h mode c of.ordered of.compiled)
-
-  module _ (tree other : Tree N) (order following : List Address) (x : IsPlaced c plan tree order) (y : IsPlaced c plan other following) where
-    same_placement : (tree ≡ other) × (order ≡ following)
-    same_placement = placed_once h mode c of plan tree other order following x y
-
-    same_width : (w v : ℕ) → IsWidth N w tree order → IsWidth N v other following → w ≡ v
-    same_width w v a b =
-        let (f, g) = same_placement in
-        width_once N w v tree order a (subst (λ z. IsWidth N v tree z) (sym g) (subst (λ z. IsWidth N v z following) (sym f) b))
-
-    same_acts : (slots : ℕ) (acts others : List (Act N)) (slot second : Address → ℕ) → SpellsLowest N slots (top_work c) acts tree order slot
-        → SpellsLowest N slots (top_work c) others other following second → acts ≡ others
-    same_acts slots acts others slot second a b =
-        let (f, g) = same_placement in
-        (one_lowest_list N law slots (top_work c) tree order acts others slot second a
-        (subst (λ z. SpellsLowest N slots (top_work c) others tree z second) (sym g) (subst (λ z. SpellsLowest N slots (top_work c) others z following second) (sym f) b))).0
-
-  one_width : (w v : ℕ) → HasWidth c plan w → HasWidth c plan v → w ≡ v
-  one_width w v x y = same_width x.tree y.tree x.order y.order x.placed y.placed w v x.width_is y.width_is
-
   module _ (given : Option ℕ) where
-    abbrev Spelled : ℕ → List GroundAction → Type 0
-    Spelled width steps = IsSpelled c plan (slots_for given width) width steps
-
-    its_width : (w : ℕ) (steps : List GroundAction) → Spelled w steps → HasWidth c plan w
-    its_width w steps x = record { tree = x.tree; order = x.order; placed = x.placed; width_is = x.width_is }
-
-    one_list : (w v : ℕ) (steps others : List GroundAction) → Spelled w steps → Spelled v others → (w ≡ v) × (steps ≡ others)
-    one_list w v steps others x y =
-        let e = one_width w v (its_width w steps x) (its_width v others y) in
-        let acts : x.acts ≡ y.acts = same_acts x.tree y.tree x.order y.order x.placed y.placed (slots_for given w) x.acts y.acts x.slot y.slot x.lowest
-        (subst (λ z. SpellsLowest N (slots_for given z) (top_work c) y.acts y.tree y.order y.slot) (sym e) y.lowest) in
-        (e, x.steps_are ∙ ap (map (step_of c)) acts ∙ sym y.steps_are)
-
     one_text : (text other : List ℕ) → IsTextOf c plan given text → IsTextOf c plan given other → text ≡ other
     one_text text other (w, steps, x, e) (v, others, y, f) =
-        let (g, k) = one_list w v steps others x y in
+        let (g, k) = one_list h mode c of plan (slots_for given w) (slots_for given v) w v steps others x y in
         e ∙ (λ i. steps_text (g i) (k i)) ∙ sym f
 
     -- what has a text is not too wide for its slots
     no_bound_needed : (text : List ℕ) (w : ℕ) → IsTextOf c plan given text → HasWidth c plan w → (n : ℕ) → given ≡ Some n → n < w → ⊥
     no_bound_needed text w (v, steps, x, e) y n g l =
-        let same = one_width v w (its_width v steps x) y in
+        let same = one_width h mode c of plan v w (its_width h mode c of plan (slots_for given v) v steps x) y in
         let within : v ≤ n = subst (λ z. v ≤ slots_for z v) g x.within in
         omega arith
 
     not_too_wide : (text : List ℕ) (w : ℕ) → IsTextOf c plan given text → HasWidth c plan w → given ≡ None → most_slots < w → ⊥
     not_too_wide text w (v, steps, x, e) y g l =
-        let same = one_width v w (its_width v steps x) y in
+        let same = one_width h mode c of plan v w (its_width h mode c of plan (slots_for given v) v steps x) y in
         let few : v ≤ most_slots = subst (λ z. slots_for z v ≤ most_slots) g x.few in
         omega arith
 
@@ -120,7 +59,7 @@ module _ (h : Hddl) (mode : Checks) (c : Compiled) (of : IsOf h mode c) (plan : 
       wide_stops w x = placed_stops h mode c of plan sound x.tree x.order x.placed
 
       text_stops : (text : List ℕ) → IsTextOf c plan given text → Stops h mode c of plan sound 4
-      text_stops text (w, steps, x, e) = wide_stops w (its_width w steps x)
+      text_stops text (w, steps, x, e) = wide_stops w (its_width h mode c of plan (slots_for given w) w steps x)
 
       stops : (one : StepText) → Is one → Stops h mode c of plan sound (stage one)
       unfolding stage
@@ -160,12 +99,12 @@ module _ (h : Hddl) (mode : Checks) (c : Compiled) (of : IsOf h mode c) (plan : 
       one_of_stage (TooLong n) (TooWide w) e x y = absurd (not_too_wide x.0 w x.1 y.0 y.1 y.2)
       one_of_stage (NeedsBound w) (Whole text) e x y = absurd (no_bound_needed text w y.0 x.0 x.1.0 x.1.1 x.1.2)
       one_of_stage (NeedsBound w) (TooLong n) e x y = absurd (no_bound_needed y.0 w y.1 x.0 x.1.0 x.1.1 x.1.2)
-      one_of_stage (NeedsBound w) (NeedsBound v) e x y = ap NeedsBound (one_width w v x.0 y.0)
+      one_of_stage (NeedsBound w) (NeedsBound v) e x y = ap NeedsBound (one_width h mode c of plan w v x.0 y.0)
       one_of_stage (NeedsBound w) (TooWide v) e x y = absurd (not_both_given x.1.0 x.1.1 y.1)
       one_of_stage (TooWide w) (Whole text) e x y = absurd (not_too_wide text w y.0 x.0 x.1 x.2)
       one_of_stage (TooWide w) (TooLong n) e x y = absurd (not_too_wide y.0 w y.1 x.0 x.1 x.2)
       one_of_stage (TooWide w) (NeedsBound v) e x y = absurd (not_both_given y.1.0 y.1.1 x.1)
-      one_of_stage (TooWide w) (TooWide v) e x y = ap TooWide (one_width w v x.0 y.0)
+      one_of_stage (TooWide w) (TooWide v) e x y = ap TooWide (one_width h mode c of plan w v x.0 y.0)
       one_of_stage one other e x y = absurd (omega arith)
 
       pub encoded_once : (one other : StepText) → Is one → Is other → one ≡ other

@@ -1,6 +1,6 @@
 -- How far a plan gets: it has a tree, its actions can be executed, they reach the goal, and it is placed. What is said of a plan that is not
 -- placed tells how far it gets, and names one line.
-use Rattle.std.proofs.Common.{ℕ, zero, suc, ◌≡◌, ◌<◌, ◌⊎◌, inl, inr, ◌∙◌, List, [], ◌∷◌, ◌++◌, length, slice_get, Option, Some, None, Contains, refl, ap, sym, subst, arith}
+use Rattle.std.proofs.Common.{ℕ, zero, suc, ◌≡◌, ◌<◌, inl, inr, ◌∙◌, List, [], ◌∷◌, ◌++◌, length, slice_get, Option, Some, None, Contains, refl, ap, sym, subst, arith}
 use Rattle.std.proofs.lemmas.Bool.{cases_lt}
 use Rattle.std.proofs.lemmas.List.Elements.{Contains-append_right}
 use Rattle.plan_texts.specs.Types.{EachIs}
@@ -24,7 +24,7 @@ use Rattle.plan_encoder.specs.Records.{EachFits}
 use Rattle.plan_encoder.specs.Laws.{IsOf, HasTree, GoalAfter}
 use Rattle.plan_encoder.proofs.PlanTrees.{trees_exactly_where_fitting}
 use Rattle.placements.specs.Matching.{IsFitted, IsUnmatched}
-use Rattle.placements.specs.Placement.{AreExecutable, state_after, IsPlaced, IsNotExecutable, MissesGoal, HasNoPlace}
+use Rattle.placements.specs.Placement.{AreExecutable, IsPlaced, IsNotExecutable, MissesGoal, HasNoPlace}
 use Rattle.placements.proofs.PlacedPlans.{placed_are_solutions}
 use Rattle.encode_answers.proofs.OnceTrees.{same_labels}
 

@@ -1,6 +1,5 @@
 -- Two trees of one plan: their labels are the same but for values, and the same nodes may stand in the same gaps with the same values.
-use Rattle.std.proofs.Common.{ℕ, ◌≡◌, inl, inr, ◌∙◌, Bool, true, false, List, [], ◌∷◌, map, slice_get, Option, Some, None, option_map, Contains, refl, ap, sym, subst}
-use Rattle.std.proofs.lemmas.Simd.{map-map}
+use Rattle.std.proofs.Common.{ℕ, ◌≡◌, inl, inr, ◌∙◌, false, List, [], ◌∷◌, map, slice_get, Option, Some, None, option_map, Contains, refl, ap, sym, subst}
 use Rattle.plan_model.specs.declared.options.Checks.{Checks}
 use Rattle.plan_model.specs.declared.values.Hddl.{Hddl}
 use Rattle.plan_model.specs.declared.values.Compiled.{Compiled}
@@ -22,7 +21,7 @@ use Rattle.schedules.proofs.latest.LinesOfTrees.{step_of}
 use Rattle.schedules.proofs.latest.SameTrees.{same_step_nodes}
 use Rattle.schedules.proofs.latest.ShownTrees.{from_step_nodes}
 use Rattle.plan_encoder.specs.Calls.{is_check, lines_of, words}
-use Rattle.plan_encoder.specs.ChosenValues.{with_values, rechecked, CanHave, method_with, work_with, chosen, is_checked_by, is_checked, asking, ParentCanHave, state_in, LabelMayStand, MayStand}
+use Rattle.plan_encoder.specs.ChosenValues.{with_values, rechecked, CanHave, method_with, work_with, chosen, is_checked_by, ParentCanHave, state_in, LabelMayStand, MayStand}
 use Rattle.plan_encoder.specs.Laws.{IsOf, IsTreeOfPlan, actions}
 use Rattle.plan_encoder.proofs.ChosenTrees.{label_chosen}
 use Rattle.plan_encoder.proofs.SameRecords.{alike, same_work, same_number, can_have}

@@ -1,5 +1,5 @@
 -- A plan has one latest gap function and, in its gaps, one first choice of values.
-use Rattle.std.proofs.Common.{ℕ, ◌≡◌, ◌⊎◌, inl, inr, ◌∙◌, Bool, true, false, cond, List, [], ◌∷◌, length, slice_get, Some, refl, ap, sym, subst}
+use Rattle.std.proofs.Common.{ℕ, ◌≡◌, inl, inr, ◌∙◌, Bool, true, false, cond, List, ◌∷◌, length, slice_get, Some, refl, ap, sym, subst}
 use Rattle.plan_model.specs.declared.options.Checks.{Checks}
 use Rattle.plan_model.specs.declared.schemas.MethodPlan.{MethodPlan}
 use Rattle.plan_model.specs.declared.values.Hddl.{Hddl}
@@ -9,7 +9,7 @@ use Rattle.plan_model.specs.task_networks.Tree.{Tree, Label, ran, used, Address,
 use Rattle.plan_model.specs.plan_meaning.Network.{check, GroundMethod, network, InTypeOf}
 use Rattle.plan_proof.proofs.machine.Running.{typed_long}
 use Rattle.hplan_text.specs.declared.values.HPlan.{HPlan}
-use Rattle.schedules.specs.latest.Gaps.{IsGapFunction, IsLatest}
+use Rattle.schedules.specs.latest.Gaps.{IsLatest}
 use Rattle.schedules.specs.latest.Execution.{IsSameShape}
 use Rattle.schedules.proofs.latest.OnlyOne.{latest_is_the_only_one}
 use Rattle.schedules.proofs.latest.Shapes.{same_gap_functions, shape_back, address_back}

@@ -1,4 +1,4 @@
--- That a hierarchical plan comes to one thing alone, whichever value of two texts is taken.
+-- That a hierarchical plan comes to one thing alone, whichever value of two texts is taken, and that no bound is below its width.
 -- Source: this project's.
 use Rattle.std.specs.Prelude.{ℕ, ◌≡◌, ◌↔◌, ◌<◌, ◌≤◌, ◌-◌, ◌^◌, List, Option, IfSome}
 use Rattle.htn_base.specs.Limits.{most_slots}
@@ -7,6 +7,7 @@ use Rattle.plan_model.specs.declared.steps.GroundAction.{GroundAction}
 use Rattle.plan_model.specs.declared.values.Hddl.{Hddl}
 use Rattle.plan_model.specs.declared.values.Compiled.{Compiled}
 use Rattle.plan_model.specs.plan_meaning.Compilation.{IsCompiled}
+use Rattle.plan_model.specs.plan_meaning.Bound.{IsBound}
 use Rattle.plan_texts.specs.FirstSeen.{IsHddlOf}
 use Rattle.hplan_text.specs.declared.values.HPlan.{HPlan}
 use Rattle.hplan_text.specs.Printable.{IsSoundHPlan, IsPrintableHPlan}
@@ -27,6 +28,18 @@ abbrev pub EachIsEncodedSomehow : Type 0
 EachIsEncodedSomehow = (h : Hddl) (mode : Checks) (c : Compiled) → IsOf h mode c → (plan : HPlan) → IsSoundHPlan plan
     → IsPrintableHPlan plan → (given : Option ℕ) (most : ℕ) → most < 2 ^ 64 - 1 → IfSome given (λ n. n ≤ most_slots)
     → (text : StepText) × IsStepText c plan given most text
+
+-- whatever number of slots the steps of a plan are spelled with, they are the same, and so is the width
+abbrev pub EachIsSpelledOnce : Type 0
+EachIsSpelledOnce = (h : Hddl) (mode : Checks) (c : Compiled) → IsOf h mode c → (plan : HPlan)
+    → (slots more width wide : ℕ) (steps others : List GroundAction)
+    → IsSpelled c plan slots width steps → IsSpelled c plan more wide others → (width ≡ wide) × (steps ≡ others)
+
+-- No plan needs more slots than the bound of its problem, which only a tail-recursive one has. So `NeedsBound` never comes where the given
+-- number of slots is at or above the bound.
+abbrev pub NoWidthIsPastTheBound : Type 0
+NoWidthIsPastTheBound = (h : Hddl) (mode : Checks) (c : Compiled) → IsOf h mode c → (bound : ℕ) → IsBound c bound
+    → (plan : HPlan) (width : ℕ) → HasWidth c plan width → width ≤ bound
 
 -- what a plan comes to is the same of two compiled problems
 pub record AreEncodedAlike (c k : Compiled) (plan : HPlan) : Type 0 where
