@@ -4,8 +4,8 @@ use Rattle.std.specs.Str.{bytes_eq}
 use Rattle.std.proofs.Math.Seq.{take-append_seam, drop-append_seam}
 use Rattle.command_words.specs.Names.{Word, names_in}
 use Rattle.command_words.specs.Bounds.{IsNumeral}
-use Rattle.command_words.specs.Forms.{Row, AreOptions, AreOf, translation_form, bound_form, decode_form, encode_form, validation_form}
-use Rattle.command_words.specs.Words.{TranslationRequest, BoundRequest, DecodeRequest, EncodeRequest, ValidationRequest, Request, to_translate, to_bound, to_decode, to_encode, to_validate, AskBy, SayTranslation, SayBound, SayDecode, SayEncode, SayValidation, AsksTranslation, AsksBound, AsksDecode, AsksEncode, AsksValidation, Asks, AreOfAForm}
+use Rattle.command_words.specs.Forms.{Row, AreOptions, AreOf, translation_form, bound_form, decode_form, encode_form, validation_form, make_form}
+use Rattle.command_words.specs.Words.{TranslationRequest, BoundRequest, DecodeRequest, EncodeRequest, ValidationRequest, MakeRequest, Request, to_translate, to_bound, to_decode, to_encode, to_validate, to_make, AskBy, SayTranslation, SayBound, SayDecode, SayEncode, SayValidation, SayMake, AsksTranslation, AsksBound, AsksDecode, AsksEncode, AsksValidation, AsksMake, Asks, AreOfAForm}
 
 -- one list behind a word, cut at one place
 module _ (form : Row) (words names options : List Word) (of : AreOf form words names options) where
@@ -81,9 +81,14 @@ one_validation_said n o r s a b =
     let e : r.domain ∷ r.problem ∷ r.plan ∷ [] ≡ s.domain ∷ s.problem ∷ s.plan ∷ [] = sym a.files ∙ b.files in
     λ i. record { domain = get_or (e i) 0 []; problem = get_or (e i) 1 []; plan = get_or (e i) 2 [] }
 
+one_make_said : (n o : List Word) (r s : MakeRequest) → SayMake n o r → SayMake n o s → r ≡ s
+one_make_said n o r s a b =
+    let e : r.numeral ∷ r.printed_domain ∷ r.printed_problem ∷ [] ≡ s.numeral ∷ s.printed_domain ∷ s.printed_problem ∷ [] = sym a.words ∙ b.words in
+    λ i. record { numeral = get_or (e i) 0 []; printed_domain = get_or (e i) 1 []; printed_problem = get_or (e i) 2 [] }
+
 -- the place of what is asked for among the commands
 abbrev commands : List Word
-commands = translation_form.command ∷ bound_form.command ∷ decode_form.command ∷ encode_form.command ∷ validation_form.command ∷ []
+commands = translation_form.command ∷ bound_form.command ∷ decode_form.command ∷ encode_form.command ∷ validation_form.command ∷ make_form.command ∷ []
 
 abbrev place : Request → ℕ
 place (to_translate r) = 0
@@ -91,6 +96,7 @@ place (to_bound r) = 1
 place (to_decode r) = 2
 place (to_encode r) = 3
 place (to_validate r) = 4
+place (to_make r) = 5
 
 abbrev first_place : List Word → Option ℕ
 first_place words = position (bytes_eq (get_or words 0 [])) commands
@@ -101,6 +107,7 @@ placed words (to_bound r) asks = ap first_place asks.2.spelled
 placed words (to_decode r) asks = ap first_place asks.2.spelled
 placed words (to_encode r) asks = ap first_place asks.2.spelled
 placed words (to_validate r) asks = ap first_place asks.2.spelled
+placed words (to_make r) asks = ap first_place asks.2.spelled
 
 pub one_request : (words : List Word) (r s : Request) → Asks words r → Asks words s → r ≡ s
 one_request words (to_translate r) (to_translate s) a b = ap to_translate (one_by _ SayTranslation one_translation_said words r s a b)
@@ -108,6 +115,7 @@ one_request words (to_bound r) (to_bound s) a b = ap to_bound (one_by _ SayBound
 one_request words (to_decode r) (to_decode s) a b = ap to_decode (one_by _ SayDecode one_decode_said words r s a b)
 one_request words (to_encode r) (to_encode s) a b = ap to_encode (one_by _ SayEncode one_encode_said words r s a b)
 one_request words (to_validate r) (to_validate s) a b = ap to_validate (one_by _ SayValidation one_validation_said words r s a b)
+one_request words (to_make r) (to_make s) a b = ap to_make (one_by _ SayMake one_make_said words r s a b)
 one_request words r s a b = let e : place r ≡ place s = one_some (place r) (place s) (placed words r a) (placed words s b) in absurd (omega (arith, e))
 
 -- a numeral that is asked for is one
@@ -122,12 +130,14 @@ encode_numeral_is words r asks = asks.3.slots
 
 -- words that ask for nothing
 pub no_form : (words : List Word) → ((r : TranslationRequest) → AsksTranslation words r → ⊥) → ((r : BoundRequest) → AsksBound words r → ⊥)
-    → ((r : DecodeRequest) → AsksDecode words r → ⊥) → ((r : EncodeRequest) → AsksEncode words r → ⊥) → ((r : ValidationRequest) → AsksValidation words r → ⊥) → AreOfAForm words → ⊥
-no_form words first second third fourth fifth (to_translate r, asks) = first r asks
-no_form words first second third fourth fifth (to_bound r, asks) = second r asks
-no_form words first second third fourth fifth (to_decode r, asks) = third r asks
-no_form words first second third fourth fifth (to_encode r, asks) = fourth r asks
-no_form words first second third fourth fifth (to_validate r, asks) = fifth r asks
+    → ((r : DecodeRequest) → AsksDecode words r → ⊥) → ((r : EncodeRequest) → AsksEncode words r → ⊥) → ((r : ValidationRequest) → AsksValidation words r → ⊥)
+    → ((r : MakeRequest) → AsksMake words r → ⊥) → AreOfAForm words → ⊥
+no_form words first second third fourth fifth sixth (to_translate r, asks) = first r asks
+no_form words first second third fourth fifth sixth (to_bound r, asks) = second r asks
+no_form words first second third fourth fifth sixth (to_decode r, asks) = third r asks
+no_form words first second third fourth fifth sixth (to_encode r, asks) = fourth r asks
+no_form words first second third fourth fifth sixth (to_validate r, asks) = fifth r asks
+no_form words first second third fourth fifth sixth (to_make r, asks) = sixth r asks
 
 pub none_too : {X : Type 0} {P Q : Type 0} (o : Option X) → (P → Q) → IfNone o P → IfNone o Q
 none_too None f p = f p

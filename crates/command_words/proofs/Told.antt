@@ -9,10 +9,10 @@ use Rattle.std.proofs.lemmas.List.{take-append-drop, length-append, length-take-
 use Rattle.std.proofs.Math.Seq.{drop-append_seam}
 use Rattle.std.proofs.lemmas.Slice.Eq.{bytes_eq-Decides}
 use Rattle.command_words.specs.Names.{Word, Names, AreApart}
-use Rattle.command_words.specs.Bounds.{IsNumeral}
-use Rattle.command_words.specs.Forms.{Row, said, AreOptions, AreOf, translation_form, bound_form, decode_form, encode_form, validation_form}
+use Rattle.command_words.specs.Bounds.{IsNumeral, IsCount}
+use Rattle.command_words.specs.Forms.{Row, said, AreOptions, AreOf, translation_form, bound_form, decode_form, encode_form, validation_form, make_form}
 use Rattle.command_words.specs.Options.{AreSlots, slots_said, style_said, checks_said}
-use Rattle.command_words.specs.Words.{TranslationRequest, BoundRequest, DecodeRequest, EncodeRequest, ValidationRequest, to_translate, to_bound, to_decode, to_encode, to_validate, AskBy, SayTranslation, SayBound, SayDecode, SayEncode, SayValidation, AsksTranslation, AsksBound, AsksDecode, AsksEncode, AsksValidation, AreOfAForm}
+use Rattle.command_words.specs.Words.{TranslationRequest, BoundRequest, DecodeRequest, EncodeRequest, ValidationRequest, MakeRequest, to_translate, to_bound, to_decode, to_encode, to_validate, to_make, AskBy, SayTranslation, SayBound, SayDecode, SayEncode, SayValidation, SayMake, AsksTranslation, AsksBound, AsksDecode, AsksEncode, AsksValidation, AsksMake, AreOfAForm}
 use Rattle.command_words.proofs.Said.{among_told}
 use Rattle.command_words.proofs.Requests.{not_said, no_form}
 
@@ -97,6 +97,16 @@ numeral_told : (w : Word) → Or_not (IsNumeral w)
 numeral_told w = go (cases_Bool (list_all is_ascii_digit w)) (at_most_told 1 (length w)) (at_most_told (length w) 39) (at_most_told 1 (digits_value 10 w))
   where
     go : (list_all is_ascii_digit w ≡ true) ⊎ (list_all is_ascii_digit w ≡ false) → Or_not (1 ≤ length w) → Or_not (length w ≤ 39) → Or_not (1 ≤ digits_value 10 w) → Or_not (IsNumeral w)
+    go (inl a) (inl b) (inl c) (inl d) = inl (record { digits = a; some = b; few = c; above_zero = d })
+    go (inr a) b c d = inr (λ n. true≢false (sym n.digits ∙ a))
+    go (inl a) (inr n) c d = inr (λ z. n z.some)
+    go (inl a) (inl b) (inr n) d = inr (λ z. n z.few)
+    go (inl a) (inl b) (inl c) (inr n) = inr (λ z. n z.above_zero)
+
+count_told : (w : Word) → Or_not (IsCount w)
+count_told w = go (cases_Bool (list_all is_ascii_digit w)) (at_most_told 1 (length w)) (at_most_told (length w) 9) (at_most_told 1 (digits_value 10 w))
+  where
+    go : (list_all is_ascii_digit w ≡ true) ⊎ (list_all is_ascii_digit w ≡ false) → Or_not (1 ≤ length w) → Or_not (length w ≤ 9) → Or_not (1 ≤ digits_value 10 w) → Or_not (IsCount w)
     go (inl a) (inl b) (inl c) (inl d) = inl (record { digits = a; some = b; few = c; above_zero = d })
     go (inr a) b c d = inr (λ n. true≢false (sym n.digits ∙ a))
     go (inl a) (inr n) c d = inr (λ z. n z.some)
@@ -214,6 +224,22 @@ module _ (options : List Word) where
   validation_told (d ∷ p ∷ s ∷ []) = inl (record { domain = d; problem = p; plan = s }, record { files = refl })
   validation_told (d ∷ p ∷ s ∷ x ∷ names) = inr (not_three (d ∷ p ∷ s ∷ x ∷ names) (λ e. omega (arith, e)))
 
+  make_of_three : (k d p : Word) → SaysTold SayMake (k ∷ d ∷ p ∷ []) options
+  make_of_three k d p = elim (both (count_told k) (other_than (same_told d p))) [
+    | inl h ↦ inl (record { numeral = k; printed_domain = d; printed_problem = p }, record { words = refl; count = h.0; apart = h.1 })
+    | inr m ↦ inr (λ r a. m (subst IsCount (ap (λ z. get_or z 0 []) (sym a.words)) a.count, λ e. a.apart (ap (λ z. get_or z 1 []) (sym a.words) ∙ e ∙ ap (λ z. get_or z 2 []) a.words)))
+  ]
+
+  not_words : (names : List Word) → (length names ≡ 3 → ⊥) → (r : MakeRequest) → SayMake names options r → ⊥
+  not_words names l r a = l (ap length a.words)
+
+  make_told : (names : List Word) → SaysTold SayMake names options
+  make_told [] = inr (not_words [] (λ e. omega (arith, e)))
+  make_told (k ∷ []) = inr (not_words (k ∷ []) (λ e. omega (arith, e)))
+  make_told (k ∷ d ∷ []) = inr (not_words (k ∷ d ∷ []) (λ e. omega (arith, e)))
+  make_told (k ∷ d ∷ p ∷ []) = make_of_three k d p
+  make_told (k ∷ d ∷ p ∷ x ∷ names) = inr (not_words (k ∷ d ∷ p ∷ x ∷ names) (λ e. omega (arith, e)))
+
 abbrev pub FormTold : List Word → Type 0
 FormTold words = AreOfAForm words ⊎ (AreOfAForm words → ⊥)
 
@@ -221,16 +247,18 @@ pub form_told : (words : List Word) → FormTold words
 form_told words =
     go (told_by translation_form SayTranslation (λ n o. translation_told o n) words) (told_by bound_form SayBound (λ n o. bound_told o n) words)
     (told_by decode_form SayDecode (λ n o. decode_told o n) words) (told_by encode_form SayEncode (λ n o. encode_told o n) words)
-    (told_by validation_form SayValidation (λ n o. validation_told o n) words)
+    (told_by validation_form SayValidation (λ n o. validation_told o n) words) (told_by make_form SayMake (λ n o. make_told o n) words)
   where
     go : ((r : TranslationRequest) × AsksTranslation words r) ⊎ ((r : TranslationRequest) → AsksTranslation words r → ⊥)
         → ((r : BoundRequest) × AsksBound words r) ⊎ ((r : BoundRequest) → AsksBound words r → ⊥)
         → ((r : DecodeRequest) × AsksDecode words r) ⊎ ((r : DecodeRequest) → AsksDecode words r → ⊥)
         → ((r : EncodeRequest) × AsksEncode words r) ⊎ ((r : EncodeRequest) → AsksEncode words r → ⊥)
-        → ((r : ValidationRequest) × AsksValidation words r) ⊎ ((r : ValidationRequest) → AsksValidation words r → ⊥) → FormTold words
-    go (inl (r, a)) b c d e = inl (to_translate r, a)
-    go (inr n) (inl (r, a)) c d e = inl (to_bound r, a)
-    go (inr n) (inr m) (inl (r, a)) d e = inl (to_decode r, a)
-    go (inr n) (inr m) (inr k) (inl (r, a)) e = inl (to_encode r, a)
-    go (inr n) (inr m) (inr k) (inr l) (inl (r, a)) = inl (to_validate r, a)
-    go (inr n) (inr m) (inr k) (inr l) (inr j) = inr (no_form words n m k l j)
+        → ((r : ValidationRequest) × AsksValidation words r) ⊎ ((r : ValidationRequest) → AsksValidation words r → ⊥)
+        → ((r : MakeRequest) × AsksMake words r) ⊎ ((r : MakeRequest) → AsksMake words r → ⊥) → FormTold words
+    go (inl (r, a)) b c d e f = inl (to_translate r, a)
+    go (inr n) (inl (r, a)) c d e f = inl (to_bound r, a)
+    go (inr n) (inr m) (inl (r, a)) d e f = inl (to_decode r, a)
+    go (inr n) (inr m) (inr k) (inl (r, a)) e f = inl (to_encode r, a)
+    go (inr n) (inr m) (inr k) (inr l) (inl (r, a)) f = inl (to_validate r, a)
+    go (inr n) (inr m) (inr k) (inr l) (inr j) (inl (r, a)) = inl (to_make r, a)
+    go (inr n) (inr m) (inr k) (inr l) (inr j) (inr i) = inr (no_form words n m k l j i)

@@ -14,6 +14,13 @@ pub record IsNumeral (word : List ℕ) : Type 0 where
   pub few : length word ≤ 39
   pub above_zero : 1 ≤ digits_value 10 word
 
+-- a word that says how many: 1 to 9 decimal digits, leading zeros among them, and not the number zero
+pub record IsCount (word : List ℕ) : Type 0 where
+  pub digits : IsTrue (list_all is_ascii_digit word)
+  pub some : 1 ≤ length word
+  pub few : length word ≤ 9
+  pub above_zero : 1 ≤ digits_value 10 word
+
 -- what a number of slots comes to
 abbrev pub ComesTo : ℕ → Bound → Type 0
 ComesTo n (Slots slots) = (slots ≡ n) × (1 ≤ n) × (n ≤ most_slots)

@@ -32,6 +32,9 @@ encode_form = record { command = codes "encode"; names = 3; options = codes "--b
 abbrev pub validation_form : Row
 validation_form = record { command = codes "validate"; names = 3; options = [] }
 
+abbrev pub make_form : Row
+make_form = record { command = codes "make"; names = 3; options = [] }
+
 -- the value that words give an option
 abbrev pub said : Word → List Word → Option Word
 said option [] = None

@@ -1,5 +1,5 @@
 -- What the words of the command line ask for.
-use Rattle.std.specs.Prelude.{ℕ, ◌≡◌, List, [], ◌∷◌, Option, Some, option_copied}
+use Rattle.std.specs.Prelude.{ℕ, ◌≡◌, ◌≢◌, List, [], ◌∷◌, Option, Some, option_copied}
 use Rattle.std.specs.Str.Parse.{digits_value}
 use Rattle.plan_model.specs.declared.options.Style.{Style}
 use Rattle.plan_model.specs.declared.options.Checks.{Checks}
@@ -8,12 +8,14 @@ use Rattle.command_words.specs.declared.asking.Bounding.{Bounding}
 use Rattle.command_words.specs.declared.asking.Decoding.{Decoding}
 use Rattle.command_words.specs.declared.asking.Encoding.{Encoding}
 use Rattle.command_words.specs.declared.asking.Validation.{Validation}
+use Rattle.command_words.specs.declared.asking.Making.{Making}
 use Rattle.command_words.specs.declared.asking.Asked.{Asked}
 use Rattle.command_words.specs.declared.asking.Asked.TheVariants as asked
 use Rattle.command_words.specs.declared.commands.Command.{Command}
-use Rattle.command_words.specs.declared.commands.Command.TheVariants.{Translate, Bound, Decode, Encode, Validate}
+use Rattle.command_words.specs.declared.commands.Command.TheVariants.{Translate, Bound, Decode, Encode, Validate, Make}
 use Rattle.command_words.specs.Names.{Word, Names, names_of, names_in, AreApart}
-use Rattle.command_words.specs.Forms.{Row, AreOf, translation_form, bound_form, decode_form, encode_form, validation_form}
+use Rattle.command_words.specs.Bounds.{IsCount}
+use Rattle.command_words.specs.Forms.{Row, AreOf, translation_form, bound_form, decode_form, encode_form, validation_form, make_form}
 use Rattle.command_words.specs.Options.{AreSlots, slots_said, style_said, checks_said}
 
 -- a translation that is asked for: its files, the numeral of its slots where one is given, its style, and how preconditions of methods
@@ -54,12 +56,19 @@ pub record ValidationRequest : Type 0 where
   pub problem : Word
   pub plan : Word
 
+-- a problem that is to be made: the numeral of its packages, and the files that are written
+pub record MakeRequest : Type 0 where
+  pub numeral : Word
+  pub printed_domain : Word
+  pub printed_problem : Word
+
 pub data Request : Type 0 where
   to_translate : TranslationRequest → Request
   to_bound : BoundRequest → Request
   to_decode : DecodeRequest → Request
   to_encode : EncodeRequest → Request
   to_validate : ValidationRequest → Request
+  to_make : MakeRequest → Request
 
 -- words of a form, of which the names and the options say a request
 abbrev pub AskBy : {R : Type 0} → Row → (List Word → List Word → R → Type 0) → List Word → R → Type 0
@@ -93,6 +102,11 @@ pub record SayEncode (names options : List Word) (request : EncodeRequest) : Typ
 pub record SayValidation (names options : List Word) (request : ValidationRequest) : Type 0 where
   pub files : names ≡ request.domain ∷ request.problem ∷ request.plan ∷ []
 
+pub record SayMake (names options : List Word) (request : MakeRequest) : Type 0 where
+  pub words : names ≡ request.numeral ∷ request.printed_domain ∷ request.printed_problem ∷ []
+  pub count : IsCount request.numeral
+  pub apart : request.printed_domain ≢ request.printed_problem
+
 -- the words ask for this
 abbrev pub AsksTranslation : List Word → TranslationRequest → Type 0
 AsksTranslation = AskBy translation_form SayTranslation
@@ -109,12 +123,16 @@ AsksEncode = AskBy encode_form SayEncode
 abbrev pub AsksValidation : List Word → ValidationRequest → Type 0
 AsksValidation = AskBy validation_form SayValidation
 
+abbrev pub AsksMake : List Word → MakeRequest → Type 0
+AsksMake = AskBy make_form SayMake
+
 abbrev pub Asks : List Word → Request → Type 0
 Asks words (to_translate request) = AsksTranslation words request
 Asks words (to_bound request) = AsksBound words request
 Asks words (to_decode request) = AsksDecode words request
 Asks words (to_encode request) = AsksEncode words request
 Asks words (to_validate request) = AsksValidation words request
+Asks words (to_make request) = AsksMake words request
 
 -- the words are of a command's form
 abbrev pub AreOfAForm : List Word → Type 0
@@ -141,12 +159,16 @@ encode_of e = record { domain = e.d.now; problem = e.p.now; hplan = e.hplan.now;
 abbrev pub validation_of : Validation → ValidationRequest
 validation_of v = record { domain = v.pd.now; problem = v.pp.now; plan = v.plan.now }
 
+abbrev pub make_of : Making → MakeRequest
+make_of m = record { numeral = m.numeral.now; printed_domain = m.od.now; printed_problem = m.op.now }
+
 abbrev pub request_of : Asked → Request
 request_of (asked.Translation t) = to_translate (translation_of t)
 request_of (asked.Bound b) = to_bound (bound_of b)
 request_of (asked.Decoding d) = to_decode (decode_of d)
 request_of (asked.Encoding e) = to_encode (encode_of e)
 request_of (asked.Validation v) = to_validate (validation_of v)
+request_of (asked.Making m) = to_make (make_of m)
 
 -- the words ask for this command
 abbrev pub AskFor : List Word → Command → Type 0
@@ -163,3 +185,6 @@ AskFor words (Decode d p plan bound checks) =
 AskFor words (Encode d p hplan bound checks) =
     AsksEncode words record { domain = d.now; problem = p.now; hplan = hplan.now; numeral = option_copied bound; checks = checks }
 AskFor words (Validate pd pp plan) = AsksValidation words record { domain = pd.now; problem = pp.now; plan = plan.now }
+AskFor words (Make k od op) =
+    (numeral : Word) × (k ≡ number_of numeral)
+    × AsksMake words record { numeral = numeral; printed_domain = od.now; printed_problem = op.now }

@@ -9,6 +9,7 @@ pub enum Asked<'a> {
     Decoding(Decoding<'a>),
     Encoding(Encoding<'a>),
     Validation(Validation<'a>),
+    Making(Making<'a>),
 }
 
 /// A translation that is asked for: its files, the numeral of its slots where one is given, its
@@ -57,4 +58,12 @@ pub struct Validation<'a> {
     pub pd: &'a str,
     pub pp: &'a str,
     pub plan: &'a str,
+}
+
+/// A problem that is to be made: the numeral of its packages, and the PDDL domain and problem, which are written.
+#[derive(Clone, Copy)]
+pub struct Making<'a> {
+    pub numeral: &'a str,
+    pub od: &'a str,
+    pub op: &'a str,
 }

@@ -2,12 +2,15 @@ ghost use Rattle.std.specs.Prelude.{◌≡◌, ◌↔◌, ◌<◌, ◌≤◌, �
 ghost use Rattle.std.specs.List.{list_all};
 ghost use Rattle.std.specs.Char.{is_ascii_digit};
 ghost use Rattle.std.specs.Str.Parse.{digits_value};
-ghost use Rattle.command_words.specs.Bounds.{IsNumeral, ComesTo};
+ghost use Rattle.command_words.specs.Bounds.{IsCount, IsNumeral, ComesTo};
 
 use htn_base::limits::MOST_SLOTS;
 
 /// The greatest number of digits of a numeral.
 const LONGEST_NUMERAL: usize = 39;
+
+/// And of a count.
+const LONGEST_COUNT: usize = 9;
 
 /// What a number of slots comes to.
 #[derive(Clone, Copy)]
@@ -28,6 +31,13 @@ pub(crate) fn is_numeral(word: &str) -> bool
         && word.len() <= LONGEST_NUMERAL
         && are_digits(word.as_bytes())
         && !is_zero(word)
+}
+
+/// Whether the word is a count: 1 to 9 decimal digits, and not the number zero.
+pub(crate) fn is_count(word: &str) -> bool
+    ensures { IsTrue result ↔ IsCount word.now }
+{
+    1 <= word.len() && word.len() <= LONGEST_COUNT && are_digits(word.as_bytes()) && !is_zero(word)
 }
 
 fn are_digits(bytes: &[u8]) -> bool
@@ -52,6 +62,17 @@ pub fn bound_of(word: &str) -> Bound
     match word.parse::<u128>() {
         Ok(number) => comes_to(number),
         Err(_) => Bound::PastAll,
+    }
+}
+
+/// The number of a count.
+pub fn count_of(word: &str) -> u32
+    requires { IsCount word.now }
+    ensures { result ≡ digits_value 10 word.now }
+{
+    match word.parse::<u32>() {
+        Ok(count) => count,
+        Err(_) => unreachable!(),
     }
 }
 

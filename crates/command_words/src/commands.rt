@@ -42,4 +42,10 @@ pub enum Command<'a> {
         pp: &'a str,
         plan: &'a str,
     },
+    /// Make a problem of `k` packages, and write the PDDL domain `od` and problem `op`.
+    Make {
+        k: u32,
+        od: &'a str,
+        op: &'a str,
+    },
 }

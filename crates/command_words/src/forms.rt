@@ -43,6 +43,12 @@ pub(crate) const VALIDATION: Form<'static> = Form {
     options: &[],
 };
 
+pub(crate) const MAKING: Form<'static> = Form {
+    command: "make",
+    names: 3,
+    options: &[],
+};
+
 /// The words of a form, behind that of the command.
 #[derive(Clone, Copy)]
 pub(crate) struct Parts<'a> {

@@ -12,8 +12,8 @@ mod names;
 mod options;
 mod words;
 
-pub use asking::{Asked, Bounding, Decoding, Encoding, Translation, Validation};
-pub use bounds::{Bound, bound_of, comes_to};
+pub use asking::{Asked, Bounding, Decoding, Encoding, Making, Translation, Validation};
+pub use bounds::{Bound, bound_of, comes_to, count_of};
 pub use commands::Command;
 pub use names::Named;
 pub use words::{asked, command};

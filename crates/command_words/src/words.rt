@@ -1,10 +1,12 @@
-ghost use Rattle.std.specs.Prelude.{IfSome, IfNone};
+ghost use Rattle.std.specs.Prelude.{◌≢◌, ◌↔◌, IsTrue, IfSome, IfNone};
+ghost use Rattle.command_words.specs.Bounds.{IsCount};
 ghost use Rattle.command_words.specs.Names.{words_of};
-ghost use Rattle.command_words.specs.Words.{AreOfAForm, AskFor, Asks, AsksBound, AsksDecode, AsksEncode, AsksTranslation, AsksValidation, BoundRequest, DecodeRequest, EncodeRequest, SayBound, SayDecode, SayEncode, SayTranslation, SayValidation, TranslationRequest, ValidationRequest, bound_of, decode_of, encode_of, request_of, translation_of, validation_of};
+ghost use Rattle.command_words.specs.Words.{AreOfAForm, AskFor, Asks, AsksBound, AsksDecode, AsksEncode, AsksMake, AsksTranslation, AsksValidation, BoundRequest, DecodeRequest, EncodeRequest, MakeRequest, SayBound, SayDecode, SayEncode, SayMake, SayTranslation, SayValidation, TranslationRequest, ValidationRequest, bound_of, decode_of, encode_of, make_of, request_of, translation_of, validation_of};
 
-use crate::asking::{Asked, Bounding, Decoding, Encoding, Translation, Validation};
+use crate::asking::{Asked, Bounding, Decoding, Encoding, Making, Translation, Validation};
+use crate::bounds::{count_of, is_count};
 use crate::commands::Command;
-use crate::forms::{BOUND, DECODING, ENCODING, TRANSLATION, VALIDATION, parts_of};
+use crate::forms::{BOUND, DECODING, ENCODING, MAKING, TRANSLATION, VALIDATION, parts_of};
 use crate::names::{Named, are_apart};
 use crate::options::{are_slots, checks, slots, style};
 
@@ -14,8 +16,8 @@ use crate::options::{are_slots, checks, slots, style};
 /// The forms are `translate D P OD OP` with the options `--bound N`, `--style adl|flat` and
 /// `--checks leaf|atonce`, where OD and OP differ and neither is D or P, `bound D P` with the
 /// option `--checks leaf|atonce`, `decode D P PLAN` and `encode D P HPLAN` with the options `--bound N` and
-/// `--checks leaf|atonce`, and `validate PD PP PLAN`. Options come in any order and may be left out: the style is then
-/// `adl`, and the checks are `leaf`.
+/// `--checks leaf|atonce`, `validate PD PP PLAN`, and `make K OD OP`, where OD and OP differ. Options come in any order and
+/// may be left out: the style is then `adl`, and the checks are `leaf`.
 pub fn command(words: &[String]) -> Option<Command<'_>>
     ensures asked { IfSome result (AskFor (words_of words.now)) }
     ensures formless { IfNone result (AreOfAForm (words_of words.now) → ⊥) }
@@ -54,6 +56,11 @@ pub fn command(words: &[String]) -> Option<Command<'_>>
             pp: asked.pp,
             plan: asked.plan,
         }),
+        Asked::Making(asked) => Some(Command::Make {
+            k: count_of(asked.numeral),
+            od: asked.od,
+            op: asked.op,
+        }),
     }
 }
 
@@ -75,8 +82,11 @@ pub fn asked(words: &[String]) -> Option<Asked<'_>>
     if let Some(asked) = asked_encoding(words) {
         return Some(Asked::Encoding(asked));
     }
-    let asked = asked_validation(words)?;
-    Some(Asked::Validation(asked))
+    if let Some(asked) = asked_validation(words) {
+        return Some(Asked::Validation(asked));
+    }
+    let asked = asked_making(words)?;
+    Some(Asked::Making(asked))
 }
 
 fn asked_translation(words: &[String]) -> Option<Translation<'_>>
@@ -223,4 +233,41 @@ fn validation<'a>(names: &'a [String], options: &'a [String]) -> Option<Validati
         pp: pp.as_str(),
         plan: plan.as_str(),
     })
+}
+
+fn asked_making(words: &[String]) -> Option<Making<'_>>
+    ensures asked { IfSome result (λ asked. AsksMake (words_of words.now) (make_of asked)) }
+    ensures other { IfNone result ((request : MakeRequest) →
+        AsksMake (words_of words.now) request → ⊥) }
+{
+    let parts = parts_of(words, &MAKING)?;
+    making(parts.names, parts.options)
+}
+
+fn making<'a>(names: &'a [String], options: &'a [String]) -> Option<Making<'a>>
+    ensures said { IfSome result (λ asked.
+        SayMake (words_of names.now) (words_of options.now) (make_of asked)) }
+    ensures other { IfNone result ((request : MakeRequest) →
+        SayMake (words_of names.now) (words_of options.now) request → ⊥) }
+{
+    let [numeral, od, op] = names else {
+        return None;
+    };
+    let making = Making {
+        numeral: numeral.as_str(),
+        od: od.as_str(),
+        op: op.as_str(),
+    };
+    if !is_well_said(&making) {
+        return None;
+    }
+    Some(making)
+}
+
+/// Whether the numeral is a count, and the two outputs differ.
+fn is_well_said(making: &Making<'_>) -> bool
+    ensures { IsTrue result ↔ (IsCount making.now.numeral.now
+        × (making.now.od.now ≢ making.now.op.now)) }
+{
+    is_count(making.numeral) && making.od != making.op
 }

@@ -6,17 +6,16 @@ use Rattle.outside_io.specs.Calls.{Passed, got, got_none}
 use Rattle.outside_io.specs.Passed.{with_call}
 use Rattle.outside_io.specs.Files.{FilesState}
 use Rattle.outside_io.specs.Sink.{SinkState}
-use Rattle.decode_answers.specs.DecodeLaws.{ValuesAreDecodedAlike}
-use Rattle.encode_answers.specs.EncodeLaws.{ValuesAreEncodedAlike}
+use Rattle.made_transport.specs.Made.{made_domain}
 use Rattle.command_words.specs.Names.{Word}
-use Rattle.command_words.specs.Words.{TranslationRequest, Request, to_translate, to_bound, to_decode, to_encode, to_validate, number_of, Asks}
+use Rattle.command_words.specs.Words.{TranslationRequest, Request, to_translate, to_bound, to_decode, to_encode, to_validate, to_make, number_of, Asks}
 use Rattle.htn_cli.specs.Answer.{Output, refuses, gives}
 use Rattle.htn_cli.specs.Answers.{Refuses, Gives, RefusesFault, past_slots, too_large, faulty, declined, given}
 use Rattle.htn_cli.specs.Calling.{StopsGet, StopsGets, PassesInputs, StopsInputs, PassesRequest, StopsRequest}
 use Rattle.htn_cli.specs.Inputs.{AreShort, AreWhole, EndTooLarge}
 use Rattle.htn_cli.specs.Passing.{asked_bytes, gets, puts, with_calls, CallsAre, Keeps, PassesDone, CallsBefore, PassesRefused, PassesFinding}
 use Rattle.htn_cli.specs.Refusal.{status_of, line_of}
-use Rattle.htn_cli.specs.Requests.{inputs_of, slots_given, IsWithin}
+use Rattle.htn_cli.specs.Requests.{inputs_of, slots_given, most_slots_of, IsWithin}
 use Rattle.htn_cli.specs.Sent.{TakesWhole, Told}
 use Rattle.htn_cli.specs.Slots.{RefusesSlots}
 use Rattle.htn_cli.specs.Stops.{StopsTexts, StopsGiven, StopsDelivery}
@@ -27,7 +26,10 @@ use Rattle.htn_cli.specs.declared.refusal.Limit.TheVariants as limit
 use Rattle.htn_cli.specs.declared.refusal.Refusal.{Refusal}
 use Rattle.htn_cli.specs.declared.refusal.Refusal.TheVariants as refused
 use Rattle.htn_cli.proofs.Endings.{no_words}
-use Rattle.htn_cli.proofs.Headlines.{come, keeps, bound_here, plan_here, finding_here}
+use Rattle.htn_cli.specs.Making.{problem_of, translation_for}
+use Rattle.htn_cli.proofs.Headlines.{come, keep_here, keeps, bound_here, plan_here, finding_here}
+use Rattle.htn_cli.proofs.LawsUsed.{LawsUsed}
+use Rattle.htn_cli.proofs.MadeTold.{keeps_made}
 use Rattle.htn_cli.proofs.TreeTold.{tree_here}
 use Rattle.htn_cli.proofs.StepsTold.{steps_here}
 use Rattle.htn_cli.proofs.InputsRead.{end_large, next_longer, large_longer}
@@ -92,7 +94,7 @@ stops_inputs request old new within (refused.Failure (failure.Reading word)) sto
 stops_inputs request old new within (refused.Failure failure.Memory) stops = tt
 stops_inputs request old new within _ stops = absurd stops
 
-pub stops_slots : (request : Request) (n : ℕ) → slots_given request ≡ Some n → (old : Option (List Passed)) (refusal : Refusal) → RefusesSlots n refusal → StopsInputs request old old refusal
+pub stops_slots : (request : Request) (n : ℕ) → slots_given request ≡ Some n → (old : Option (List Passed)) (refusal : Refusal) → RefusesSlots (most_slots_of request) n refusal → StopsInputs request old old refusal
 stops_slots request n e old (refused.Limit l) stops = ([], past_slots n (refused.Limit l) refl e stops, no_calls old)
 stops_slots request n e old refused.Words stops = absurd stops
 stops_slots request n e old (refused.Fault place code) stops = absurd stops
@@ -149,28 +151,33 @@ stops_within request output old new out out' calls also (refused.Failure failure
 stops_within request output old new out out' calls also (refused.Failure failure.Memory) stops = tt
 stops_within request output old new out out' calls also _ stops = absurd stops
 
--- What is promised is true of the bytes, where the values of two texts are decoded and encoded alike.
-keeps_by : (alike : ValuesAreDecodedAlike) (encoded : ValuesAreEncodedAlike) (request : Request) (texts : List (List ℕ)) (output : Output) → Gives request texts output → (out out' : SinkState) → TakesWhole output.told out out' → Keeps request texts output.texts out out'
-keeps_by alike encoded (to_translate r) (d ∷ p ∷ []) output (texts, slots, written, e) out out' told =
+-- What is promised is true of the bytes.
+keeps_by : (laws : LawsUsed) (request : Request) (texts : List (List ℕ)) (output : Output) → Gives request texts output → (out out' : SinkState) → TakesWhole output.told out out' → Keeps request texts output.texts out out'
+keeps_by laws (to_translate r) (d ∷ p ∷ []) output (texts, slots, written, e) out out' told =
     subst (λ (z : Output). Keeps (to_translate r) (d ∷ p ∷ []) z.texts out out') (sym e)
     (keeps r d p out out' texts slots written texts.domain texts.problem refl refl (subst (λ (z : Output). TakesWhole z.told out out') e told))
-keeps_by alike encoded (to_bound r) (d ∷ p ∷ []) output (n, (c, source, bound), small, e) out out' told =
+keeps_by laws (to_bound r) (d ∷ p ∷ []) output (n, (c, source, bound), small, e) out out' told =
     subst (λ (z : Output). Keeps (to_bound r) (d ∷ p ∷ []) z.texts out out') (sym e)
     (bound_here r d p out out' n c source bound (subst (λ (z : Output). TakesWhole z.told out out') e told))
-keeps_by alike encoded (to_decode r) (d ∷ p ∷ plan ∷ []) output (c, steps, slots, text, is, has, e) out out' told =
+keeps_by laws (to_decode r) (d ∷ p ∷ plan ∷ []) output (c, steps, slots, text, is, has, e) out out' told =
     subst (λ (z : Output). Keeps (to_decode r) (d ∷ p ∷ plan ∷ []) z.texts out out') (sym e)
-    (tree_here alike r d p plan c steps slots is text has out out' (subst (λ (z : Output). TakesWhole z.told out out') e told))
-keeps_by alike encoded (to_encode r) (d ∷ p ∷ hplan ∷ []) output (c, plan, text, s, (width, steps, is, t), e) out out' told =
+    (tree_here laws.decoded r d p plan c steps slots is text has out out' (subst (λ (z : Output). TakesWhole z.told out out') e told))
+keeps_by laws (to_encode r) (d ∷ p ∷ hplan ∷ []) output (c, plan, text, s, (width, steps, is, t), e) out out' told =
     subst (λ (z : Output). Keeps (to_encode r) (d ∷ p ∷ hplan ∷ []) z.texts out out') (sym e)
-    (steps_here encoded r d p hplan c plan s.spelled alike width steps is out out' (subst (λ z. TakesWhole z out out') t (subst (λ (z : Output). TakesWhole z.told out out') e told)))
-keeps_by alike encoded (to_validate r) (pd ∷ pp ∷ plan ∷ []) output (are, e) out out' told =
+    (steps_here laws.encoded r d p hplan c plan s.spelled laws.decoded width steps is out out' (subst (λ z. TakesWhole z out out') t (subst (λ (z : Output). TakesWhole z.told out out') e told)))
+keeps_by laws (to_validate r) (pd ∷ pp ∷ plan ∷ []) output (are, e) out out' told =
     subst (λ (z : Output). Keeps (to_validate r) (pd ∷ pp ∷ plan ∷ []) z.texts out out') (sym e)
     (plan_here pd pp plan out out' are (subst (λ (z : Output). TakesWhole z.told out out') e told))
-keeps_by alike encoded _ _ output x out out' told = absurd x
+keeps_by laws (to_make r) [] output (texts, actions, bound, width, steps, are, e) out out' told =
+    subst (λ (z : Output). Keeps (to_make r) [] z.texts out out') (sym e)
+    (keeps_made laws r out out' texts actions bound width steps are texts.domain texts.problem refl refl
+    (keep_here (translation_for r) made_domain (problem_of r) out out' texts bound are.written texts.domain texts.problem refl refl)
+    (subst (λ (z : Output). TakesWhole z.told out out') e told))
+keeps_by laws _ _ output x out out' told = absurd x
 
 module _ (words : List Word) (old new : Option (List Passed)) where
-  pub passes_done : ValuesAreDecodedAlike → ValuesAreEncodedAlike → (request : Request) → Asks words request → (out out' : SinkState) → PassesRequest request old new out out' → PassesDone words (CallsAre old new) out out'
-  passes_done alike encoded request asked out out' done = record {
+  pub passes_done : LawsUsed → (request : Request) → Asks words request → (out out' : SinkState) → PassesRequest request old new out out' → PassesDone words (CallsAre old new) out out'
+  passes_done laws request asked out out' done = record {
     request = request;
     asked = asked;
     texts = done.texts;
@@ -178,7 +185,7 @@ module _ (words : List Word) (old new : Option (List Passed)) where
     answer = done.answer;
     called = done.called;
     told = done.told;
-    keeps = keeps_by alike encoded request done.texts done.output (come request done.texts (gives done.output) done.answer).1 out out' done.told;
+    keeps = keeps_by laws request done.texts done.output (come request done.texts (gives done.output) done.answer).1 out out' done.told;
   }
 
   pub calls_before : (request : Request) → Asks words request → (refusal : Refusal) → StopsRequest request old new refusal → CallsBefore words (CallsAre old new) refusal
@@ -192,21 +199,21 @@ module _ (words : List Word) (old new : Option (List Passed)) where
   calls_before request asked (refused.Failure failure.Memory) stops = tt
 
   -- a finding is true of them
-  pub passes_finding : ValuesAreDecodedAlike → ValuesAreEncodedAlike → (refusal : Refusal) → CallsBefore words (CallsAre old new) refusal → status_of refusal ≡ status.Finding → (err err' : SinkState) → Told (line_of refusal) err err' → PassesFinding words (CallsAre old new) err err'
-  passes_finding alike encoded (refused.Finding f) (request, asked, texts, answer, calls) e err err' line = record {
+  pub passes_finding : LawsUsed → (refusal : Refusal) → CallsBefore words (CallsAre old new) refusal → status_of refusal ≡ status.Finding → (err err' : SinkState) → Told (line_of refusal) err err' → PassesFinding words (CallsAre old new) err err'
+  passes_finding laws (refused.Finding f) (request, asked, texts, answer, calls) e err err' line = record {
     request = request;
     asked = asked;
     texts = texts;
     called = calls;
-    finding = finding_here alike encoded request texts f (come request texts (refuses (refused.Finding f)) answer).1 err err' line;
+    finding = finding_here laws request texts f (come request texts (refuses (refused.Finding f)) answer).1 err err' line;
   }
-  passes_finding alike encoded refused.Words calls e err err' line = absurd (cc)
-  passes_finding alike encoded (refused.Fault place code) calls e err err' line = absurd (cc)
-  passes_finding alike encoded (refused.Limit l) calls e err err' line = absurd (cc)
-  passes_finding alike encoded (refused.Failure (failure.Reading name)) calls e err err' line = absurd (cc)
-  passes_finding alike encoded (refused.Failure (failure.Writing name)) calls e err err' line = absurd (cc)
-  passes_finding alike encoded (refused.Failure failure.Telling) calls e err err' line = absurd (cc)
-  passes_finding alike encoded (refused.Failure failure.Memory) calls e err err' line = absurd (cc)
+  passes_finding laws refused.Words calls e err err' line = absurd (cc)
+  passes_finding laws (refused.Fault place code) calls e err err' line = absurd (cc)
+  passes_finding laws (refused.Limit l) calls e err err' line = absurd (cc)
+  passes_finding laws (refused.Failure (failure.Reading name)) calls e err err' line = absurd (cc)
+  passes_finding laws (refused.Failure (failure.Writing name)) calls e err err' line = absurd (cc)
+  passes_finding laws (refused.Failure failure.Telling) calls e err err' line = absurd (cc)
+  passes_finding laws (refused.Failure failure.Memory) calls e err err' line = absurd (cc)
 
 -- The same of files that tell all that passed.
 module _ (words : List Word) (old new : List Passed) where

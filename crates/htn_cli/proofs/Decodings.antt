@@ -86,7 +86,7 @@ module _ (r : DecodeRequest) (d p plan : List ℕ) where
         bound_stops none (refused.Failure failure.Memory) stops = tt
         bound_stops none _ stops = absurd stops
 
-        computed_past : r.numeral ≡ None → (n : ℕ) → IsBound c n → (refusal : Refusal) → RefusesSlots n refusal → Stopped refusal
+        computed_past : r.numeral ≡ None → (n : ℕ) → IsBound c n → (refusal : Refusal) → RefusesSlots most_slots n refusal → Stopped refusal
         computed_past none n bound (refused.Limit limit.Bound) stops = inr (none, (c, steps, n, spell_few, bound, stops))
         computed_past none n bound (refused.Limit (limit.Slots m)) stops = inr (none, (c, steps, n, spell_few, bound, stops))
         computed_past none n bound _ stops = absurd stops

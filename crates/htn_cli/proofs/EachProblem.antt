@@ -28,7 +28,7 @@ use Rattle.htn_cli.specs.Problem.{SpellProblem}
 use Rattle.htn_cli.specs.Refusal.{line_of}
 use Rattle.htn_cli.specs.Sent.{Told}
 use Rattle.htn_cli.specs.Translation.{AreSlotsOf}
-use Rattle.htn_cli.specs.promise.Finding.{TellsCycle}
+use Rattle.htn_cli.specs.promise.Cycle.{TellsCycle}
 use Rattle.htn_cli.specs.declared.refusal.Finding.TheVariants as finding
 use Rattle.htn_cli.specs.declared.refusal.Refusal.TheVariants as refused
 use Rattle.htn_cli.proofs.SameCycles.{named_back, words_same}
@@ -43,7 +43,7 @@ pub slots_computed : (c : Compiled) (slots : ℕ) (o : Option Word) → o ≡ No
 slots_computed c slots o none are = subst (λ z. AreSlotsOf c z slots) none are
 
 module _ (d p : List ℕ) (checks : Checks) (c : Compiled) (source : SpellProblem d p checks c) where
-  graph : (h : Hddl) (k : Compiled) → IsHddlOf d p h → IsCompiled h checks k → HaveOneGraph k c
+  pub graph : (h : Hddl) (k : Compiled) → IsHddlOf d p h → IsCompiled h checks k → HaveOneGraph k c
   graph h k s is = one_graph d p source.value h checks c k source.read.spelled s source.read.sound.value source.compiled_is is
 
   -- each problem that they spell has the same bound

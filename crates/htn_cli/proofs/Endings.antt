@@ -5,16 +5,16 @@ use Rattle.outside_io.specs.Count.{HasRisen}
 use Rattle.outside_io.specs.Files.{FilesState}
 use Rattle.outside_io.specs.Sink.{SinkState}
 use Rattle.command_words.specs.Names.{Word}
-use Rattle.command_words.specs.Words.{Request, to_translate, to_bound, to_decode, to_encode, to_validate, Asks, AreOfAForm}
+use Rattle.command_words.specs.Words.{Request, to_translate, to_bound, to_decode, to_encode, to_validate, to_make, Asks, AreOfAForm}
 use Rattle.command_words.proofs.Requests.{one_request}
 use Rattle.htn_cli.specs.Answer.{Text, Output, Answer, refuses, gives}
 use Rattle.htn_cli.specs.Answers.{Refuses, Gives, RefusesFault, RefusesSize, IsAnswerFor, past_slots, too_large, faulty, declined, given, IsAnswer}
 use Rattle.htn_cli.specs.Refusal.{status_of, line_of}
-use Rattle.htn_cli.specs.Requests.{outputs_of, slots_given, IsWithin}
+use Rattle.htn_cli.specs.Requests.{outputs_of, slots_given, most_slots_of, IsWithin}
 use Rattle.htn_cli.specs.Sent.{Told}
 use Rattle.htn_cli.specs.Slots.{RefusesSlots}
 use Rattle.htn_cli.specs.Left.{Stand, Leaves, LeavesFailed, LeavesStarved}
-use Rattle.htn_cli.specs.Ending.{Achieves, IsOfAnAnswer, IsRefused, IsRefusedFor, IsDone, AskForSlots, AskForNoFile, IsAnswered, IsBeforePuts, IsUntouched}
+use Rattle.htn_cli.specs.Ending.{Achieves, IsOfAnAnswer, IsRefused, IsRefusedFor, IsDone, AskForSlots, AskForTooMany, AskForNoFile, IsAnswered, IsBeforePuts, IsUntouched}
 use Rattle.htn_cli.specs.declared.status.Status.{Status}
 use Rattle.htn_cli.specs.declared.status.Status.TheVariants as status
 use Rattle.htn_cli.specs.declared.refusal.Failure.{Failure}
@@ -77,20 +77,30 @@ module _ (words : List Word) (old new : FilesState) (out out' : SinkState) where
   pub asked_done : (request : Request) → Asks words request → IsDone words old new out out' → Achieves old new out out' request
   asked_done request asked done = subst (Achieves old new out out') (one_request words done.request request done.asked asked) done.achieved
 
+-- what is printed of a request has few slots
+pub few_most : (request : Request) → most_slots_of request ≤ most_slots
+few_most (to_translate r) = omega arith
+few_most (to_bound r) = omega arith
+few_most (to_decode r) = omega arith
+few_most (to_encode r) = omega arith
+few_most (to_validate r) = omega arith
+few_most (to_make r) = omega arith
+
 -- A number of slots that is given and past a limit.
-module _ (n : ℕ) (request : Request) (e : slots_given request ≡ Some n) (many : most_slots < n) where
+module _ (n : ℕ) (request : Request) (e : slots_given request ≡ Some n) (many : most_slots_of request < n) where
   not_within : IsWithin request → ⊥
-  not_within inside = let few : n ≤ most_slots = subst (λ z. IfSome z (λ m. m ≤ most_slots)) e inside in omega (arith, few, many)
+  not_within inside =
+      let few : n ≤ most_slots_of request = subst (λ z. IfSome z (λ m. m ≤ most_slots_of request)) e inside in omega (arith, few, many)
 
   same_given : (m : ℕ) → slots_given request ≡ Some m → m ≡ n
   same_given m f = let g : Some m ≡ Some n = sym f ∙ e in cc
 
   abbrev Past : Answer → Type 0
-  Past (refuses refusal) = RefusesSlots n refusal
+  Past (refuses refusal) = RefusesSlots (most_slots_of request) n refusal
   Past (gives output) = ⊥
 
   past_for : (texts : List (List ℕ)) (a : Answer) → IsAnswerFor request texts a → Past a
-  past_for texts a (past_slots m refusal none f past) = subst (λ z. RefusesSlots z refusal) (same_given m f) past
+  past_for texts a (past_slots m refusal none f past) = subst (λ z. RefusesSlots (most_slots_of request) z refusal) (same_given m f) past
   past_for texts a (too_large refusal inside size) = absurd (not_within inside)
   past_for texts a (faulty refusal inside whole fault) = absurd (not_within inside)
   past_for texts a (declined refusal inside whole x) = absurd (not_within inside)
@@ -106,36 +116,45 @@ module _ (n : ℕ) (request : Request) (e : slots_given request ≡ Some n) (man
     past_failed failure.Telling (output, is, stands) = past_for is.texts (gives output) is.answers
     past_failed failure.Memory left = not_within left.0
 
-    past_left : (refusal : Refusal) → Leaves request old new out out' refusal → RefusesSlots n refusal × Unchanged
+    past_left : (refusal : Refusal) → Leaves request old new out out' refusal → RefusesSlots (most_slots_of request) n refusal × Unchanged
     past_left refused.Words left = (past_for left.0.texts (refuses refused.Words) left.0.answers, (left.1, left.2))
     past_left (refused.Fault place code) left = (past_for left.0.texts (refuses (refused.Fault place code)) left.0.answers, (left.1, left.2))
     past_left (refused.Limit l) left = (past_for left.0.texts (refuses (refused.Limit l)) left.0.answers, (left.1, left.2))
     past_left (refused.Finding f) left = (past_for left.0.texts (refuses (refused.Finding f)) left.0.answers, (left.1, left.2))
     past_left (refused.Failure f) left = absurd (past_failed f left)
 
-is_past_all : (n : ℕ) (refusal : Refusal) → RefusesSlots n refusal → 2 ^ 128 ≤ n → refusal ≡ refused.Limit limit.Bound
-is_past_all n (refused.Limit limit.Bound) past l = refl
-is_past_all n (refused.Limit (limit.Slots m)) (e, many, few) l = absurd (omega (arith, few, l))
-is_past_all n _ past l = absurd past
+is_past_all : (most n : ℕ) (refusal : Refusal) → RefusesSlots most n refusal → 2 ^ 128 ≤ n → refusal ≡ refused.Limit limit.Bound
+is_past_all most n (refused.Limit limit.Bound) past l = refl
+is_past_all most n (refused.Limit (limit.Slots m)) (e, many, few) l = absurd (omega (arith, few, l))
+is_past_all most n _ past l = absurd past
 
-is_past_slots : (n : ℕ) (refusal : Refusal) → RefusesSlots n refusal → n < 2 ^ 128 → refusal ≡ refused.Limit (limit.Slots n)
-is_past_slots n (refused.Limit limit.Bound) past l = absurd (omega (arith, past, l))
-is_past_slots n (refused.Limit (limit.Slots m)) (e, many, few) l = ap (λ z. refused.Limit (limit.Slots z)) e
-is_past_slots n _ past l = absurd past
+is_past_slots : (most n : ℕ) (refusal : Refusal) → RefusesSlots most n refusal → n < 2 ^ 128 → refusal ≡ refused.Limit (limit.Slots n)
+is_past_slots most n (refused.Limit limit.Bound) past l = absurd (omega (arith, past, l))
+is_past_slots most n (refused.Limit (limit.Slots m)) (e, many, few) l = ap (λ z. refused.Limit (limit.Slots z)) e
+is_past_slots most n _ past l = absurd past
 
 module _ (words : List Word) (old new : FilesState) (out out' : SinkState) where
-  past_asked : (n : ℕ) (refusal : Refusal) → IsRefused words old new out out' refusal → AskForSlots words n → most_slots < n → RefusesSlots n refusal × ((new ≡ old) × (out' ≡ out))
-  past_asked n refusal left (request, asked, e) many = past_left n request e many old new out out' refusal (asked_left words old new out out' request refusal asked left)
+  abbrev IsPast : ℕ → Refusal → Type 0
+  IsPast n refusal = (most : ℕ) × RefusesSlots most n refusal × ((new ≡ old) × (out' ≡ out))
+
+  past_asked : (n : ℕ) (refusal : Refusal) → IsRefused words old new out out' refusal → AskForTooMany words n → IsPast n refusal
+  past_asked n refusal left (request, asked, e, many) =
+      let x = past_left n request e many old new out out' refusal (asked_left words old new out out' request refusal asked left) in
+      (most_slots_of request, x.0, x.1)
+
+  -- a number past all is past any limit
+  pub too_many : (n : ℕ) → AskForSlots words n → 2 ^ 128 ≤ n → AskForTooMany words n
+  too_many n (request, asked, e) past = (request, asked, e, (let few = few_most request in omega (arith, few, past)))
 
   pub past_all : (n : ℕ) (refusal : Refusal) → IsRefused words old new out out' refusal → AskForSlots words n → 2 ^ 128 ≤ n → (refusal ≡ refused.Limit limit.Bound) × ((new ≡ old) × (out' ≡ out))
-  past_all n refusal left asks past = let x = past_asked n refusal left asks (omega (arith, past)) in (is_past_all n refusal x.0 past, x.1)
+  past_all n refusal left asks past = let x = past_asked n refusal left (too_many n asks past) in (is_past_all x.0 n refusal x.1 past, x.2)
 
-  pub past_slots_too : (n : ℕ) (refusal : Refusal) → IsRefused words old new out out' refusal → AskForSlots words n → most_slots < n → n < 2 ^ 128 → (refusal ≡ refused.Limit (limit.Slots n)) × ((new ≡ old) × (out' ≡ out))
-  past_slots_too n refusal left asks past few = let x = past_asked n refusal left asks past in (is_past_slots n refusal x.0 few, x.1)
+  pub past_slots_too : (n : ℕ) (refusal : Refusal) → IsRefused words old new out out' refusal → AskForTooMany words n → n < 2 ^ 128 → (refusal ≡ refused.Limit (limit.Slots n)) × ((new ≡ old) × (out' ≡ out))
+  past_slots_too n refusal left asks few = let x = past_asked n refusal left asks in (is_past_slots x.0 n refusal x.1 few, x.2)
 
   -- a request past a limit is not done
-  pub past_not_done : (n : ℕ) → IsDone words old new out out' → AskForSlots words n → most_slots < n → ⊥
-  past_not_done n done (request, asked, e) many =
+  pub past_not_done : (n : ℕ) → IsDone words old new out out' → AskForTooMany words n → ⊥
+  past_not_done n done (request, asked, e, many) =
       let achieved = asked_done words old new out out' request asked done in
       past_for n request e many achieved.is.texts (gives achieved.output) achieved.is.answers
 
@@ -234,6 +253,7 @@ module _ (old new : FilesState) (out out' : SinkState) where
 -- A command without outputs leaves what the files hold.
 gives_no_text : (request : Request) → outputs_of request ≡ [] → (texts : List (List ℕ)) (output : Output) → Gives request texts output → output.texts ≡ []
 gives_no_text (to_translate r) none texts output x = absurd (cc)
+gives_no_text (to_make r) none texts output x = absurd (cc)
 gives_no_text (to_bound r) none (d ∷ p ∷ []) output (n, has, small, e) = ap (λ (z : Output). z.texts) e
 gives_no_text (to_decode r) none (d ∷ p ∷ l ∷ []) output (c, steps, slots, text, source, have, e) = ap (λ (z : Output). z.texts) e
 gives_no_text (to_encode r) none (d ∷ p ∷ l ∷ []) output (c, plan, text, source, is, e) = ap (λ (z : Output). z.texts) e
@@ -304,9 +324,9 @@ NotWords (refuses refused.Words) = ⊥
 NotWords _ = Unit {0}
 
 module _ (request : Request) (texts : List (List ℕ)) where
-  past_words : (n : ℕ) (refusal : Refusal) → RefusesSlots n refusal → NotWords (refuses refusal)
-  past_words n refused.Words x = x
-  past_words n _ x = tt
+  past_words : (most n : ℕ) (refusal : Refusal) → RefusesSlots most n refusal → NotWords (refuses refusal)
+  past_words most n refused.Words x = x
+  past_words most n _ x = tt
 
   size_words : (refusal : Refusal) → RefusesSize request texts refusal → NotWords (refuses refusal)
   size_words refused.Words x = x
@@ -321,7 +341,7 @@ module _ (request : Request) (texts : List (List ℕ)) where
   declined_words _ none x = tt
 
   not_words : (Refuses request texts refused.Words → ⊥) → (a : Answer) → IsAnswerFor request texts a → NotWords a
-  not_words none a (past_slots n refusal nothing f past) = past_words n refusal past
+  not_words none a (past_slots n refusal nothing f past) = past_words (most_slots_of request) n refusal past
   not_words none a (too_large refusal inside size) = size_words refusal size
   not_words none a (faulty refusal inside whole x) = fault_words refusal x
   not_words none a (declined refusal inside whole x) = declined_words refusal none x
@@ -333,6 +353,7 @@ never_words (to_bound r) (d ∷ p ∷ []) x = x
 never_words (to_decode r) (d ∷ p ∷ l ∷ []) x = x
 never_words (to_encode r) (d ∷ p ∷ l ∷ []) x = x
 never_words (to_validate r) (d ∷ p ∷ l ∷ []) x = x
+never_words (to_make r) [] x = x
 never_words _ _ x = x
 
 pub no_words : (request : Request) (texts : List (List ℕ)) → IsAnswerFor request texts (refuses refused.Words) → ⊥

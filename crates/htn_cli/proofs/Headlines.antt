@@ -20,8 +20,9 @@ use Rattle.plan_proof.proofs.values.Headlines.{headline_of, headline_at_bound_of
 use Rattle.plan_proof.proofs.machine.Bounds.{loses_nothing}
 use Rattle.decode_answers.specs.DecodeLaws.{ValuesAreDecodedAlike}
 use Rattle.encode_answers.specs.EncodeLaws.{ValuesAreEncodedAlike}
+use Rattle.made_transport.specs.Made.{made_domain}
 use Rattle.command_words.specs.Names.{Word}
-use Rattle.command_words.specs.Words.{TranslationRequest, BoundRequest, Request, to_translate, to_bound, to_decode, to_encode, to_validate, Asks}
+use Rattle.command_words.specs.Words.{TranslationRequest, BoundRequest, Request, to_translate, to_bound, to_decode, to_encode, to_validate, to_make, Asks}
 use Rattle.htn_cli.specs.Answer.{Output, Answer, refuses, gives}
 use Rattle.htn_cli.specs.Answers.{Refuses, Gives, RefusesSize, RefusesFault, IsAnswerFor, past_slots, too_large, faulty, declined, given}
 use Rattle.htn_cli.specs.Bounding.{GivesBound}
@@ -30,31 +31,37 @@ use Rattle.htn_cli.specs.Encoding.{GivesSteps}
 use Rattle.htn_cli.specs.Ending.{Achieves, IsDone, IsRefused}
 use Rattle.htn_cli.specs.Inputs.{AreGot, AreWhole}
 use Rattle.htn_cli.specs.Left.{Stand}
-use Rattle.htn_cli.specs.Lines.{slots_line, bound_line, valid_line}
+use Rattle.htn_cli.specs.Lines.{slots_line, bound_line, valid_line, summary}
+use Rattle.htn_cli.specs.Making.{packages, problem_of, translation_for, GivesMake}
 use Rattle.htn_cli.specs.Problem.{SpellProblem}
 use Rattle.htn_cli.specs.Refusal.{status_of, line_of}
-use Rattle.htn_cli.specs.Requests.{inputs_of}
+use Rattle.htn_cli.specs.Requests.{inputs_of, most_slots_of}
 use Rattle.htn_cli.specs.Sent.{TakesWhole, Told}
 use Rattle.htn_cli.specs.Slots.{RefusesSlots}
 use Rattle.htn_cli.specs.Texts.{Texts}
 use Rattle.htn_cli.specs.Told.{AreToldToRead}
-use Rattle.htn_cli.specs.Translation.{AreWritten, GivesTranslation, translation_output}
+use Rattle.htn_cli.specs.Translation.{AreWritten, GivesTranslation, texts_for, translation_output}
 use Rattle.htn_cli.specs.Validation.{AreConfirmed, RefusesPlan, GivesPlan}
-use Rattle.htn_cli.specs.promise.Headline.{KeepsPlans, HasHeadline}
+use Rattle.htn_cli.specs.promise.Headline.{KeepPlans, KeepsPlans, HasHeadline}
 use Rattle.htn_cli.specs.promise.Bound.{TellsBound, HasBound}
 use Rattle.htn_cli.specs.promise.Plan.{TellsPlan, HasPlan}
 use Rattle.htn_cli.specs.promise.Tree.{TellsTree, HasTree}
 use Rattle.htn_cli.specs.promise.Steps.{TellsSteps, HasSteps}
+use Rattle.htn_cli.specs.promise.Making.{KeepsMade, HasMade}
 use Rattle.htn_cli.specs.promise.Finding.{TellsFailure, TellsFinding, HasFinding}
+use Rattle.htn_cli.specs.promise.Promise.{KeepsPromise}
+use Rattle.htn_cli.specs.declared.status.Status.{Status}
 use Rattle.htn_cli.specs.declared.status.Status.TheVariants as status
 use Rattle.htn_cli.specs.declared.refusal.Failure.TheVariants as failure
 use Rattle.htn_cli.specs.declared.refusal.Finding.{Finding}
 use Rattle.htn_cli.specs.declared.refusal.Finding.TheVariants as finding
 use Rattle.htn_cli.specs.declared.refusal.Refusal.{Refusal}
 use Rattle.htn_cli.specs.declared.refusal.Refusal.TheVariants as refused
-use Rattle.htn_cli.proofs.Endings.{asked_left, asked_done}
+use Rattle.htn_cli.proofs.Endings.{asked_left, asked_done, never_done}
 use Rattle.htn_cli.proofs.Validations.{sound_apart}
 use Rattle.htn_cli.proofs.EachProblem.{slots_given, slots_computed, bound_of_each, cycle_of_each, faithful_of_each}
+use Rattle.htn_cli.proofs.LawsUsed.{LawsUsed}
+use Rattle.htn_cli.proofs.MadeTold.{keeps_made, nothing_made}
 use Rattle.htn_cli.proofs.TreeTold.{tree_here, none_here}
 use Rattle.htn_cli.proofs.StepsTold.{steps_here, no_steps_here}
 
@@ -83,16 +90,17 @@ module _ (request : TranslationRequest) (d p : List ℕ) (out out' : SinkState) 
         subst (λ (z : Type 0). z) (λ i. HeadlineAtBound d p request.checks slots (printed_domain_is i) (printed_problem_is i))
         (headline_at_bound_of d p source.value request.checks c slots request.style written.translated.value source.read.spelled written.translated.printed source.read.ordered)
 
-    pub keeps : TakesWhole (slots_line slots) out out' → KeepsPlans request d p od op out out'
-    keeps told = record {
-      slots = slots;
-      told = told;
+    pub keep_here : KeepPlans request d p od op slots
+    keep_here = record {
       given = slots_given c slots request.numeral written.source.slots_are;
       headline = headline_here;
       at_bound = at_bound_here;
       open_leaves = λ h k s is tree order q scheduled. (pending_open (network k) tree order q scheduled, open_pending (network k) tree order q scheduled);
       nothing_lost = λ none h k s is. loses_nothing h request.checks k is slots (bound_of_each d p request.checks c source slots (slots_computed c slots request.numeral none written.source.slots_are) h k s is) slots od op (omega arith) (headline_here h k s is);
     }
+
+    pub keeps : TakesWhole (slots_line slots) out out' → KeepsPlans request d p od op out out'
+    keeps told = record { slots = slots; told = told; keep = keep_here }
 
 -- A bound that was told.
 module _ (request : BoundRequest) (d p : List ℕ) (out out' : SinkState) (n : ℕ) (c : Compiled) (source : SpellProblem d p request.checks c) (bound : IsBound c n) where
@@ -133,17 +141,18 @@ module _ (pd pp plan : List ℕ) where
         );
   }
 
--- What was found of the texts of a request, where the values of two texts are decoded and encoded alike.
-pub finding_here : (alike : ValuesAreDecodedAlike) (encoded : ValuesAreEncodedAlike) (request : Request) (texts : List (List ℕ)) (f : Finding) → Refuses request texts (refused.Finding f) → (err err' : SinkState) → Told (line_of (refused.Finding f)) err err' → TellsFinding request texts err err'
-finding_here alike encoded (to_translate r) (d ∷ p ∷ []) (finding.NotTailRecursive words) (none, (c, source, named)) err err' line = cycle_of_each d p r.checks c source words named err err' line
-finding_here alike encoded (to_bound r) (d ∷ p ∷ []) (finding.NotTailRecursive words) (c, source, named) err err' line = cycle_of_each d p r.checks c source words named err err' line
-finding_here alike encoded (to_decode r) (d ∷ p ∷ plan ∷ []) (finding.NotTailRecursive words) (none, (c, steps, spelled, named)) err err' line =
+-- What was found of the texts of a request.
+pub finding_here : (laws : LawsUsed) (request : Request) (texts : List (List ℕ)) (f : Finding) → Refuses request texts (refused.Finding f) → (err err' : SinkState) → Told (line_of (refused.Finding f)) err err' → TellsFinding request texts err err'
+finding_here laws (to_translate r) (d ∷ p ∷ []) (finding.NotTailRecursive words) (none, (c, source, named)) err err' line = cycle_of_each d p r.checks c source words named err err' line
+finding_here laws (to_bound r) (d ∷ p ∷ []) (finding.NotTailRecursive words) (c, source, named) err err' line = cycle_of_each d p r.checks c source words named err err' line
+finding_here laws (to_decode r) (d ∷ p ∷ plan ∷ []) (finding.NotTailRecursive words) (none, (c, steps, spelled, named)) err err' line =
     inl (none, cycle_of_each d p r.checks c spelled.spelled.problem_is words named err err' line)
-finding_here alike encoded (to_decode r) (d ∷ p ∷ plan ∷ []) (finding.SpellsNoSolution step why) (c, steps, slots, is, fails) err err' line =
-    inr (none_here alike r d p plan c steps slots is step why fails err err' line)
-finding_here alike encoded (to_encode r) (d ∷ p ∷ hplan ∷ []) f (c, plan, s, is) err err' line = no_steps_here encoded r d p hplan c plan s.spelled f is err err' line
-finding_here alike encoded (to_validate r) (pd ∷ pp ∷ plan ∷ []) (finding.NotAPlan step why) x err err' line = failure_here pd pp plan step why err err' line x
-finding_here alike encoded _ _ f x err err' line = absurd x
+finding_here laws (to_decode r) (d ∷ p ∷ plan ∷ []) (finding.SpellsNoSolution step why) (c, steps, slots, is, fails) err err' line =
+    inr (none_here laws.decoded r d p plan c steps slots is step why fails err err' line)
+finding_here laws (to_encode r) (d ∷ p ∷ hplan ∷ []) f (c, plan, s, is) err err' line = no_steps_here laws.encoded r d p hplan c plan s.spelled laws.within f is err err' line
+finding_here laws (to_validate r) (pd ∷ pp ∷ plan ∷ []) (finding.NotAPlan step why) x err err' line = failure_here pd pp plan step why err err' line x
+finding_here laws (to_make r) [] f x err err' line = nothing_made laws r f x err err' line
+finding_here laws _ _ f x err err' line = absurd x
 
 -- An output comes from all texts, which are given; and a finding from all texts, which are declined.
 abbrev Come : Request → List (List ℕ) → Answer → Type 0
@@ -152,9 +161,9 @@ Come request texts (refuses (refused.Finding f)) = AreWhole (inputs_of request) 
 Come request texts (refuses _) = Unit {0}
 
 module _ (request : Request) (texts : List (List ℕ)) where
-  come_past : (n : ℕ) (refusal : Refusal) → RefusesSlots n refusal → Come request texts (refuses refusal)
-  come_past n (refused.Finding f) x = absurd x
-  come_past n _ x = tt
+  come_past : (most n : ℕ) (refusal : Refusal) → RefusesSlots most n refusal → Come request texts (refuses refusal)
+  come_past most n (refused.Finding f) x = absurd x
+  come_past most n _ x = tt
 
   come_size : (refusal : Refusal) → RefusesSize request texts refusal → Come request texts (refuses refusal)
   come_size (refused.Finding f) x = absurd x
@@ -169,7 +178,7 @@ module _ (request : Request) (texts : List (List ℕ)) where
   come_declined _ whole x = tt
 
   pub come : (a : Answer) → IsAnswerFor request texts a → Come request texts a
-  come a (past_slots n refusal none e x) = come_past n refusal x
+  come a (past_slots n refusal none e x) = come_past (most_slots_of request) n refusal x
   come a (too_large refusal inside x) = come_size refusal x
   come a (faulty refusal inside whole x) = come_fault refusal x
   come a (declined refusal inside whole x) = come_declined refusal whole x
@@ -257,18 +266,55 @@ module _ (words : List Word) (files files' : FilesState) (out out' : SinkState) 
           let told : TakesWhole text out out' = subst (λ (z : Output). TakesWhole z.told out out') e a.stands.1 in
           steps_here encoded r d p hplan c plan s.spelled alike width steps is out out' (subst (λ z. TakesWhole z out out') t told)
 
+  pub made_done : LawsUsed → HasMade words files' out out'
+  made_done laws r od op asked domain_held problem_held = go (achieved (to_make r) asked [] tt) (gives_here (to_make r) asked [] tt)
+    where
+      go : (a : Achieves files files' out out' (to_make r)) → GivesMake r a.output → KeepsMade r od op out out'
+      go a (texts, actions, bound, width, steps, are, e) =
+          let stand : Stand (texts_for (translation_for r).names texts) files files' = subst (λ (z : Output). Stand z.texts files files') e a.stands.0 in
+          let line : TakesWhole (summary (packages r) actions bound width steps) out out' = subst (λ (z : Output). TakesWhole z.told out out') e a.stands.1 in
+          let domain_is = held_there files.held _ texts.domain od stand.held.0 domain_held in
+          let problem_is = held_there files.held _ texts.problem op stand.held.1.0 problem_held in
+          keeps_made laws r out out' texts actions bound width steps are od op domain_is problem_is
+          (keep_here (translation_for r) made_domain (problem_of r) out out' texts bound are.written od op domain_is problem_is) line
+
 -- a finding that was told, and no other refusal has this status
-pub finding_refused : (alike : ValuesAreDecodedAlike) (encoded : ValuesAreEncodedAlike) (words : List Word) (files files' : FilesState) (out out' : SinkState) (refusal : Refusal) → IsRefused words files files' out out' refusal → status_of refusal ≡ status.Finding → (err err' : SinkState) → Told (line_of refusal) err err'
+pub finding_refused : (laws : LawsUsed) (words : List Word) (files files' : FilesState) (out out' : SinkState) (refusal : Refusal) → IsRefused words files files' out out' refusal → status_of refusal ≡ status.Finding → (err err' : SinkState) → Told (line_of refusal) err err'
     → HasFinding words files err err'
-finding_refused alike encoded words files files' out out' (refused.Finding f) left e err err' line request texts asked told =
+finding_refused laws words files files' out out' (refused.Finding f) left e err err' line request texts asked told =
     let left_here = asked_left words files files' out out' request (refused.Finding f) asked left in
     let is = left_here.0 in
     let x = come request is.texts (refuses (refused.Finding f)) is.answers in
-    finding_here alike encoded request texts f (subst (λ z. Refuses request z (refused.Finding f)) (same_texts files (inputs_of request) is.texts texts is.got x.0 told) x.1) err err' line
-finding_refused alike encoded words files files' out out' refused.Words left e err err' line request texts asked told = absurd (cc)
-finding_refused alike encoded words files files' out out' (refused.Fault place code) left e err err' line request texts asked told = absurd (cc)
-finding_refused alike encoded words files files' out out' (refused.Limit l) left e err err' line request texts asked told = absurd (cc)
-finding_refused alike encoded words files files' out out' (refused.Failure (failure.Reading name)) left e err err' line request texts asked told = absurd (cc)
-finding_refused alike encoded words files files' out out' (refused.Failure (failure.Writing name)) left e err err' line request texts asked told = absurd (cc)
-finding_refused alike encoded words files files' out out' (refused.Failure failure.Telling) left e err err' line request texts asked told = absurd (cc)
-finding_refused alike encoded words files files' out out' (refused.Failure failure.Memory) left e err err' line request texts asked told = absurd (cc)
+    finding_here laws request texts f (subst (λ z. Refuses request z (refused.Finding f)) (same_texts files (inputs_of request) is.texts texts is.got x.0 told) x.1) err err' line
+finding_refused laws words files files' out out' refused.Words left e err err' line request texts asked told = absurd (cc)
+finding_refused laws words files files' out out' (refused.Fault place code) left e err err' line request texts asked told = absurd (cc)
+finding_refused laws words files files' out out' (refused.Limit l) left e err err' line request texts asked told = absurd (cc)
+finding_refused laws words files files' out out' (refused.Failure (failure.Reading name)) left e err err' line request texts asked told = absurd (cc)
+finding_refused laws words files files' out out' (refused.Failure (failure.Writing name)) left e err err' line request texts asked told = absurd (cc)
+finding_refused laws words files files' out out' (refused.Failure failure.Telling) left e err err' line request texts asked told = absurd (cc)
+finding_refused laws words files files' out out' (refused.Failure failure.Memory) left e err err' line request texts asked told = absurd (cc)
+
+-- The promise, whole, of a run that was done and of one that was refused.
+module _ (laws : LawsUsed) (words : List Word) (files files' : FilesState) (out out' : SinkState) where
+  pub promise_done : (err : SinkState) → IsDone words files files' out out' → KeepsPromise words files files' out out' err err status.Done
+  promise_done err done = record {
+    translate = λ e. headline_done words files files' out out' done;
+    bound = λ e. bound_done words files files' out out' done;
+    decode = λ e. tree_done words files files' out out' done laws.decoded;
+    encode = λ e. steps_done words files files' out out' done laws.decoded laws.encoded;
+    validate = λ e. plan_done words files files' out out' done;
+    make = λ e. made_done words files files' out out' done laws;
+    finding = λ e. absurd (cc);
+  }
+
+  pub promise_refused : (err err' : SinkState) (ended : Status) (refusal : Refusal) → ended ≡ status_of refusal → IsRefused words files files' out out' refusal → Told (line_of refusal) err err'
+      → KeepsPromise words files files' out out' err err' ended
+  promise_refused err err' ended refusal is left told = record {
+    translate = λ e. absurd (never_done refusal (sym is ∙ e));
+    bound = λ e. absurd (never_done refusal (sym is ∙ e));
+    decode = λ e. absurd (never_done refusal (sym is ∙ e));
+    encode = λ e. absurd (never_done refusal (sym is ∙ e));
+    validate = λ e. absurd (never_done refusal (sym is ∙ e));
+    make = λ e. absurd (never_done refusal (sym is ∙ e));
+    finding = λ e. finding_refused laws words files files' out out' refusal left (sym is ∙ e) err err' told;
+  }

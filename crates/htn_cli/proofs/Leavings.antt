@@ -12,23 +12,24 @@ use Rattle.plan_model.specs.plan_meaning.Network.{top_task}
 use Rattle.plan_model.specs.plan_meaning.Schemas.{task}
 use Rattle.plan_model.specs.plan_meaning.Bound.{IsBound}
 use Rattle.plan_texts.specs.SoundlyCompiled.{IsSoundlyCompiled}
-use Rattle.command_words.specs.Names.{Word}
+use Rattle.command_words.specs.Names.{Word, Names}
 use Rattle.command_words.specs.Words.{TranslationRequest, BoundRequest, ValidationRequest, Request, to_translate, to_bound, to_validate, number_of}
 use Rattle.htn_cli.specs.Answer.{Output, Answer, refuses, gives, told_alone}
 use Rattle.htn_cli.specs.Answers.{IsLeastOf, Refuses, Gives, RefusesFault, IsAnswerFor, past_slots, too_large, faulty, declined, given, IsAnswer}
 use Rattle.htn_cli.specs.Bounding.{GivesBound}
 use Rattle.htn_cli.specs.Ending.{Achieves}
 use Rattle.htn_cli.specs.Inputs.{AreGot, AreWhole}
+use Rattle.htn_cli.specs.Printing.{AreWhole as ArePrintedWhole}
 use Rattle.htn_cli.specs.Left.{Leaves, StandsUpTo}
 use Rattle.htn_cli.specs.Lines.{slots_line, bound_line, valid_line}
 use Rattle.htn_cli.specs.Made.{output_of, texts_by, AreMadeWith, IsMadeWith, IsMadeFor, StopsMadeFor, manner_of, GivesOutput, NamesDiffer}
 use Rattle.htn_cli.specs.Problem.{SpellProblem}
-use Rattle.htn_cli.specs.Requests.{inputs_of, slots_given, IsWithin}
+use Rattle.htn_cli.specs.Requests.{inputs_of, names_told, slots_given, most_slots_of, IsWithin}
 use Rattle.htn_cli.specs.Sent.{TakesWhole}
 use Rattle.htn_cli.specs.Slots.{RefusesSlots}
 use Rattle.htn_cli.specs.Stops.{GivesTexts, StopsReading, StopsFault, StopsTexts, StopsPlan, StopsBound, IsGiven, StopsGiven, IsChosen, StopsChosen, StopsPrinted, IsWant, StopsDelivery, StopsOutput}
 use Rattle.htn_cli.specs.Texts.{texts_of}
-use Rattle.htn_cli.specs.Translation.{AreSlotsOf, IsForSlots, GivesTranslation, translation_output}
+use Rattle.htn_cli.specs.Translation.{AreSlotsOf, IsForSlots, AreWritten, GivesTranslation, texts_for}
 use Rattle.htn_cli.specs.declared.output.Output.{Output as Made}
 use Rattle.htn_cli.specs.declared.output.Written.{Written}
 use Rattle.htn_cli.specs.declared.refusal.Failure.TheVariants as failure
@@ -47,7 +48,7 @@ pub soundly : (d p : List ℕ) (checks : Checks) (c : Compiled) → SpellProblem
 soundly d p checks c s = record { problem = s.value; checks = checks; sound = s.read.sound; ordered = s.read.ordered; compiled = s.compiled_is }
 
 -- Lines are short.
-few_digits : (n : ℕ) → n < 2 ^ 128 → length (decimal n) ≤ 39
+pub few_digits : (n : ℕ) → n < 2 ^ 128 → length (decimal n) ≤ 39
 few_digits n l = length-decimal-le_wide 39 n (omega arith) (omega (arith, l)) (omega (arith, l))
 
 pub slots_line_fits : (n : ℕ) → n ≤ most_slots → length (slots_line n) ≤ longest_output
@@ -97,7 +98,7 @@ unread request old new within (refused.Limit (limit.Bytes word)) ((texts, got, l
 unread request old new within _ stops = absurd stops
 
 -- its texts have a fault
-pub fault_stops : (request : Request) (texts : List (List ℕ)) (refusal : Refusal) → StopsFault (inputs_of request) (IsLeastOf request texts) refusal → StopsTexts request texts refusal
+pub fault_stops : (request : Request) (texts : List (List ℕ)) (refusal : Refusal) → StopsFault (names_told request) (IsLeastOf request texts) refusal → StopsTexts request texts refusal
 fault_stops request texts (refused.Fault place code) stops = inl stops
 fault_stops request texts (refused.Limit (limit.Text counted place)) stops = inl stops
 fault_stops request texts (refused.Failure failure.Memory) stops = tt
@@ -156,19 +157,26 @@ given_within (Some word) (Some slots) is = let e = is.same in let l = is.few in 
 
 module _ (request : Request) (old : FilesState) where
   -- it is too great
-  slots_past : (n : ℕ) → slots_given request ≡ Some n → (refusal : Refusal) → RefusesSlots n refusal → IsAnswer request old (refuses refusal)
+  slots_past : (n : ℕ) → slots_given request ≡ Some n → (refusal : Refusal) → RefusesSlots (most_slots_of request) n refusal → IsAnswer request old (refuses refusal)
   slots_past n e refusal stops = record { texts = []; got = tt; answers = past_slots n refusal refl e stops }
 
-  slots_stop : (n : ℕ) → slots_given request ≡ Some n → (refusal : Refusal) → RefusesSlots n refusal → StopsOutput request old old refusal
+  slots_stop : (n : ℕ) → slots_given request ≡ Some n → (refusal : Refusal) → RefusesSlots (most_slots_of request) n refusal → StopsOutput request old old refusal
   slots_stop n e (refused.Limit l) stops = (slots_past n e (refused.Limit l) stops, refl)
   slots_stop n e refused.Words stops = absurd stops
   slots_stop n e (refused.Fault place code) stops = absurd stops
   slots_stop n e (refused.Finding f) stops = absurd stops
   slots_stop n e (refused.Failure f) stops = absurd stops
 
-  pub given_refused : (numeral : Option Word) → slots_given request ≡ option_map number_of numeral → (refusal : Refusal) → StopsGiven numeral refusal → StopsOutput request old old refusal
-  given_refused None e refusal stops = absurd stops
-  given_refused (Some word) e refusal stops = slots_stop (number_of word) e refusal stops
+  pub given_refused : (numeral : Option Word) → slots_given request ≡ option_map number_of numeral → most_slots_of request ≡ most_slots → (refusal : Refusal) → StopsGiven numeral refusal
+      → StopsOutput request old old refusal
+  given_refused None e f refusal stops = absurd stops
+  given_refused (Some word) e f refusal stops = slots_stop (number_of word) e refusal (subst (λ z. RefusesSlots z (number_of word) refusal) (sym f) stops)
+
+-- the texts of what is written, for the files of these names
+pub written_texts : (names : Names) (written : Option Written) (w : Written) → w.od.now ≡ names.printed_domain → w.op.now ≡ names.printed_problem → written ≡ Some w
+    → texts_by written ≡ texts_for names (texts_of w.texts)
+written_texts names written w od op e =
+    ap texts_by e ∙ (λ i. record { name = od i; bytes = w.texts.domain } ∷ record { name = op i; bytes = w.texts.problem } ∷ [])
 
 -- A translation.
 module _ (r : TranslationRequest) where
@@ -176,7 +184,7 @@ module _ (r : TranslationRequest) where
   is_within g is = given_within r.numeral g is
 
   pub given_stops : (old : FilesState) (refusal : Refusal) → StopsGiven r.numeral refusal → StopsOutput (to_translate r) old old refusal
-  given_stops old refusal stops = given_refused (to_translate r) old r.numeral refl refusal stops
+  given_stops old refusal stops = given_refused (to_translate r) old r.numeral refl refl refusal stops
 
   module _ (d p : List ℕ) (c : Compiled) (spelled : SpellProblem d p r.checks c) (g : Option ℕ) (is : IsGiven r.numeral g) where
     abbrev Stopped : Refusal → Type 0
@@ -188,7 +196,7 @@ module _ (r : TranslationRequest) where
     bound_stops none (refused.Failure failure.Memory) stops = tt
     bound_stops none _ stops = absurd stops
 
-    computed_past : r.numeral ≡ None → (n : ℕ) → IsBound c n → (refusal : Refusal) → RefusesSlots n refusal → Stopped refusal
+    computed_past : r.numeral ≡ None → (n : ℕ) → IsBound c n → (refusal : Refusal) → RefusesSlots most_slots n refusal → Stopped refusal
     computed_past none n bound (refused.Limit limit.Bound) stops = inr (none, (n, (c, spelled, bound), stops))
     computed_past none n bound (refused.Limit (limit.Slots m)) stops = inr (none, (n, (c, spelled, bound), stops))
     computed_past none n bound _ stops = absurd stops
@@ -203,7 +211,7 @@ module _ (r : TranslationRequest) where
         go None None is (inr (n, bound, stops)) e = computed_past e n bound refusal stops
 
     module _ (slots : ℕ) (chosen : IsChosen c g slots) where
-      for_slots : IsForSlots r d p c slots
+      pub for_slots : IsForSlots r d p c slots
       for_slots = go r.numeral g is chosen refl
         where
           go : (o : Option Word) (g : Option ℕ) → IsGiven o g → IsChosen c g slots → r.numeral ≡ o → IsForSlots r d p c slots
@@ -219,6 +227,14 @@ module _ (r : TranslationRequest) where
       print_stops (refused.Failure failure.Memory) stops = tt
       print_stops _ stops = absurd stops
 
+      -- what is written for these files
+      abbrev pub are_written : (w : Written) → ArePrintedWhole c (manner_of r slots) (texts_of w.texts) → AreWritten r d p (texts_of w.texts) slots
+      are_written w whole = record {
+        compiled = c;
+        source = for_slots;
+        translated = translated for_slots.problem_is.value c (manner_of r slots) (texts_of w.texts) for_slots.problem_is.read.sound for_slots.problem_is.compiled_is for_slots.some whole;
+      }
+
       pub gives_translation : (made : Made) → IsMadeWith r c slots made → GivesTranslation r d p (output_of made)
       gives_translation made (are, line) = go made.written are refl
         where
@@ -227,14 +243,8 @@ module _ (r : TranslationRequest) where
           go (Some w) (od, op, whole) e = (
             texts_of w.texts,
             slots,
-            record {
-              compiled = c;
-              source = for_slots;
-              translated = translated for_slots.problem_is.value c (manner_of r slots) (texts_of w.texts) for_slots.problem_is.read.sound for_slots.problem_is.compiled_is for_slots.some whole;
-            },
-            (let a : texts_by made.written ≡ (translation_output r.names (texts_of w.texts) slots).texts =
-                ap texts_by e ∙ (λ i. record { name = od i; bytes = w.texts.domain } ∷ record { name = op i; bytes = w.texts.problem } ∷ []) in
-                λ i. record { texts = a i; told = line i }),
+            are_written w whole,
+            (let a = written_texts r.names made.written w od op e in λ i. record { texts = a i; told = line i }),
           )
 
   -- what was made of a compiled problem

@@ -8,12 +8,17 @@ pub mod Puts
 pub mod Leavings
 pub mod Decodings
 pub mod Encodings
+pub mod MadePlans
+pub mod Makings
+pub mod Actions
 pub mod Validations
 pub mod SameCycles
 pub mod Endings
 pub mod EachProblem
 pub mod TreeTold
 pub mod StepsTold
+pub mod MadeTold
+pub mod LawsUsed
 pub mod Headlines
 pub mod CallsMade
 pub mod examples
@@ -26,6 +31,7 @@ pub mod OneBound
 pub mod OneValidation
 pub mod OneDecoding
 pub mod OneEncoding
+pub mod OneMaking
 pub mod OneAnswers
 pub mod StepsTaken
 pub mod TruthTold
@@ -38,4 +44,5 @@ pub mod SomeDecoding
 pub mod SomeHPlan
 pub mod SomeEncoding
 pub mod SomeValidation
+pub mod SomeMaking
 pub mod SomeAnswers

@@ -3,15 +3,15 @@ use Rattle.std.proofs.Common.{ℕ, ◌≡◌, ◌≤◌, ◌++◌, List, [], ◌
 use Rattle.htn_base.specs.Limits.{longest_output, most_slots}
 use Rattle.outside_io.specs.Files.{FilesState}
 use Rattle.command_words.specs.Names.{Word}
-use Rattle.command_words.specs.Words.{TranslationRequest, BoundRequest, DecodeRequest, EncodeRequest, ValidationRequest, Request, to_translate, to_bound, to_decode, to_encode, to_validate}
+use Rattle.command_words.specs.Words.{TranslationRequest, BoundRequest, DecodeRequest, EncodeRequest, ValidationRequest, MakeRequest, Request, to_translate, to_bound, to_decode, to_encode, to_validate, to_make}
 use Rattle.command_words.proofs.Requests.{one_request}
 use Rattle.decode_answers.specs.DecodeLaws.{EachIsDecodedOnce, ValuesAreDecodedAlike}
-use Rattle.encode_answers.specs.EncodeLaws.{EachIsEncodedOnce, ValuesAreEncodedAlike}
+use Rattle.encode_answers.specs.EncodeLaws.{EachIsEncodedOnce, EachIsSpelledOnce, ValuesAreEncodedAlike}
 use Rattle.htn_cli.specs.Answer.{Output, Answer, refuses, gives}
 use Rattle.htn_cli.specs.Answers.{Refuses, Gives, RefusesFault, RefusesSize, IsAnswerFor, past_slots, too_large, faulty, declined, given, IsAnswer, IsAnswerTo}
 use Rattle.htn_cli.specs.Inputs.{AreWhole}
 use Rattle.htn_cli.specs.OneAnswer.{AreTold, TellTheSame, EachHasOneAnswer}
-use Rattle.htn_cli.specs.Requests.{inputs_of, slots_given, IsWithin}
+use Rattle.htn_cli.specs.Requests.{inputs_of, slots_given, most_slots_of, IsWithin}
 use Rattle.htn_cli.specs.Slots.{RefusesSlots}
 use Rattle.htn_cli.specs.declared.refusal.Limit.TheVariants as limit
 use Rattle.htn_cli.specs.declared.refusal.Refusal.{Refusal}
@@ -19,8 +19,10 @@ use Rattle.htn_cli.specs.declared.refusal.Refusal.TheVariants as refused
 use Rattle.htn_cli.proofs.OneBound.{BoundComes, one_bounded}
 use Rattle.htn_cli.proofs.OneDecoding.{DecodeComes, one_decoded}
 use Rattle.htn_cli.proofs.OneEncoding.{EncodeComes, same_answer, one_encoded}
+use Rattle.htn_cli.proofs.Endings.{few_most}
 use Rattle.htn_cli.proofs.OneFault.{one_fault, fault_not_declined, fault_not_given}
 use Rattle.htn_cli.proofs.OneInput.{Agree, agree, whole_same, large_not_whole, one_large}
+use Rattle.htn_cli.proofs.OneMaking.{MakeComes, one_made}
 use Rattle.htn_cli.proofs.OneSlots.{past_few, one_past}
 use Rattle.htn_cli.proofs.OneTranslation.{TranslationComes, one_translated}
 use Rattle.htn_cli.proofs.OneValidation.{PlanComes, one_validated}
@@ -50,13 +52,17 @@ plan_comes : (r : ValidationRequest) (d p l : List ℕ) (a : Answer) → Comes (
 plan_comes r d p l (refuses refusal) is = is
 plan_comes r d p l (gives output) is = is.0
 
+make_comes : (r : MakeRequest) (a : Answer) → Comes (to_make r) [] a → MakeComes r a
+make_comes r (refuses refusal) is = is
+make_comes r (gives output) is = is
+
 nothing_comes : (request : Request) (texts : List (List ℕ)) → ((refusal : Refusal) → Refuses request texts refusal → ⊥) → ((output : Output) → Gives request texts output → ⊥) → (a : Answer) → Comes request texts a → ⊥
 nothing_comes request texts r g (refuses refusal) is = r refusal is
 nothing_comes request texts r g (gives output) is = g output is.0
 
 -- how far a run comes: a number of slots, a text that is too large, a fault, or what follows from the texts
 data Stage (request : Request) (texts : List (List ℕ)) : Answer → Type 0 where
-  before : (n : ℕ) (refusal : Refusal) → slots_given request ≡ Some n → RefusesSlots n refusal → Stage request texts (refuses refusal)
+  before : (n : ℕ) (refusal : Refusal) → slots_given request ≡ Some n → RefusesSlots (most_slots_of request) n refusal → Stage request texts (refuses refusal)
   large : (refusal : Refusal) → IsWithin request → RefusesSize request texts refusal → Stage request texts (refuses refusal)
   fault : (refusal : Refusal) → IsWithin request → AreWhole (inputs_of request) texts → RefusesFault request texts refusal → Stage request texts (refuses refusal)
   come : (a : Answer) → IsWithin request → AreWhole (inputs_of request) texts → Comes request texts a → Stage request texts a
@@ -68,11 +74,14 @@ stage request texts a (faulty refusal inside whole f) = fault refusal inside who
 stage request texts a (declined refusal inside whole x) = come (refuses refusal) inside whole x
 stage request texts a (given output inside whole x fits) = come (gives output) inside whole (x, fits)
 
-inside_few : (o : Option ℕ) (n : ℕ) → o ≡ Some n → IfSome o (λ m. m ≤ most_slots) → n ≤ most_slots
-inside_few o n e few = subst (λ z. IfSome z (λ m. m ≤ most_slots)) e few
+inside_few : (most : ℕ) (o : Option ℕ) (n : ℕ) → o ≡ Some n → IfSome o (λ m. m ≤ most) → n ≤ most
+inside_few most o n e few = subst (λ z. IfSome z (λ m. m ≤ most)) e few
 
-not_inside : (request : Request) (n : ℕ) (refusal : Refusal) → slots_given request ≡ Some n → RefusesSlots n refusal → IsWithin request → ⊥
-not_inside request n refusal e past inside = let few = inside_few (slots_given request) n e inside in let many = past_few n refusal past in omega (arith, few, many)
+not_inside : (request : Request) (n : ℕ) (refusal : Refusal) → slots_given request ≡ Some n → RefusesSlots (most_slots_of request) n refusal → IsWithin request → ⊥
+not_inside request n refusal e past inside =
+    let few = inside_few (most_slots_of request) (slots_given request) n e inside in
+    let many = past_few (most_slots_of request) n (few_most request) refusal past in
+    omega (arith, few, many)
 
 same_number : (o : Option ℕ) (n m : ℕ) → o ≡ Some n → o ≡ Some m → n ≡ m
 same_number o n m e f = let g : Some n ≡ Some m = sym e ∙ f in cc
@@ -92,13 +101,14 @@ not_both : (request : Request) (texts : List (List ℕ)) (f : Refusal) (a : Answ
 not_both request texts f (refuses refusal) x y = fault_not_declined request texts f refusal x y
 not_both request texts f (gives output) x y = fault_not_given request texts f output x y.0
 
-module _ (once : EachIsDecodedOnce) (alike : ValuesAreDecodedAlike) (encoded_once : EachIsEncodedOnce) (encoded_alike : ValuesAreEncodedAlike) where
+module _ (once : EachIsDecodedOnce) (alike : ValuesAreDecodedAlike) (encoded_once : EachIsEncodedOnce) (encoded_alike : ValuesAreEncodedAlike) (spelled_once : EachIsSpelledOnce) where
   one_comes : (request : Request) (texts : List (List ℕ)) (a b : Answer) → Comes request texts a → Comes request texts b → TellTheSame a b
   one_comes (to_translate r) (d ∷ p ∷ []) a b is also = one_translated r d p a b (translation_comes r d p a is) (translation_comes r d p b also)
   one_comes (to_bound r) (d ∷ p ∷ []) a b is also = one_bounded r d p a b (bound_comes r d p a is) (bound_comes r d p b also)
   one_comes (to_decode r) (d ∷ p ∷ l ∷ []) a b is also = one_decoded once alike r d p l a b (decode_comes r d p l a is) (decode_comes r d p l b also)
   one_comes (to_encode r) (d ∷ p ∷ l ∷ []) a b is also = one_encoded encoded_once encoded_alike r d p l a b (encode_comes r d p l a is) (encode_comes r d p l b also)
   one_comes (to_validate r) (d ∷ p ∷ l ∷ []) a b is also = one_validated d p l a b (plan_comes r d p l a is) (plan_comes r d p l b also)
+  one_comes (to_make r) [] a b is also = one_made encoded_once encoded_alike spelled_once r a b (make_comes r a is) (make_comes r b also)
   one_comes request texts a b is also = absurd (nothing_comes request texts (λ refusal x. x) (λ output x. x) a is)
 
   module _ (request : Request) (texts others : List (List ℕ)) (e : Agree texts others) (f : Agree others texts) where
@@ -106,7 +116,7 @@ module _ (once : EachIsDecodedOnce) (alike : ValuesAreDecodedAlike) (encoded_onc
     moved P whole also x = subst P (sym (whole_same (inputs_of request) texts others whole also e)) x
 
     same_stage : (a b : Answer) → Stage request texts a → Stage request others b → TellTheSame a b
-    same_stage a b (before n r g past) (before m q h also) = one_past n m (same_number (slots_given request) n m g h) r q past also
+    same_stage a b (before n r g past) (before m q h also) = one_past (most_slots_of request) n m (same_number (slots_given request) n m g h) r q past also
     same_stage a b (before n r g past) (large q inside x) = absurd (not_inside request n r g past inside)
     same_stage a b (before n r g past) (fault q inside whole x) = absurd (not_inside request n r g past inside)
     same_stage a b (before n r g past) (come q inside whole x) = absurd (not_inside request n r g past inside)

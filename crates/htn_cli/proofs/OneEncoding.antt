@@ -28,7 +28,7 @@ EncodeComes request d p l (refuses refusal) = RefusesEncode request d p l refusa
 EncodeComes request d p l (gives output) = GivesSteps request d p l output × (length output.told ≤ longest_output)
 
 -- what is answered where a plan comes to this
-abbrev answer_by : StepText → Answer
+abbrev pub answer_by : StepText → Answer
 answer_by (Whole text) = gives (told_alone text)
 answer_by (TooLong n) = refuses (refused.Limit (limit.Output n))
 answer_by (NoMatch id) = refuses (refused.Finding (finding.NoMatch id))
@@ -40,6 +40,21 @@ answer_by (TooWide width) = refuses (refused.Limit (limit.Slots width))
 
 pub same_answer : (one other : Answer) → one ≡ other → TellTheSame one other
 same_answer one other e = record { status = ap status_by e; line = ap line_by e; output = ap output_by e }
+
+-- what a plan comes to over one problem, over another that is encoded alike
+module _ (c k : Compiled) (plan : HPlan) (given : Option ℕ) (same : AreEncodedAlike c k plan) where
+  text_there : (text : List ℕ) → IsTextOf c plan given text → IsTextOf k plan given text
+  text_there text (width, steps, is, e) = (width, steps, same.spelled (slots_for given width) width steps is, e)
+
+  pub step_text_there : (most : ℕ) (t : StepText) → IsStepText c plan given most t → IsStepText k plan given most t
+  step_text_there most (Whole text) (is, fits) = (text_there text is, fits)
+  step_text_there most (TooLong n) (text, is, e, past) = (text, text_there text is, e, past)
+  step_text_there most (NoMatch id) is = same.unmatched id is
+  step_text_there most (NotExecutable id) is = same.not_executable id is
+  step_text_there most GoalFalse is = same.misses is
+  step_text_there most NoPlacement is = same.no_place is
+  step_text_there most (NeedsBound width) (wide, needs) = (same.width width wide, needs)
+  step_text_there most (TooWide width) (wide, none, many) = (same.width width wide, none, many)
 
 module _ (once : EachIsEncodedOnce) (alike : ValuesAreEncodedAlike) (request : EncodeRequest) (d p l : List ℕ) where
   abbrev Meant : Type 0
@@ -67,23 +82,10 @@ module _ (once : EachIsEncodedOnce) (alike : ValuesAreEncodedAlike) (request : E
         let is = x.2.problem_is in let are = y.2.problem_is in
         alike d p is.value are.value request.checks x.0 y.0 x.1 is.read.spelled are.read.spelled (is_of x) are.compiled_is
 
-    text_there : (text : List ℕ) → IsTextOf x.0 x.1 given text → IsTextOf y.0 x.1 given text
-    text_there text (width, steps, is, e) = (width, steps, encoded_alike.spelled (slots_for given width) width steps is, e)
-
-    is_there : (t : StepText) → Is x.0 x.1 t → Is y.0 x.1 t
-    is_there (Whole text) (is, fits) = (text_there text is, fits)
-    is_there (TooLong n) (text, is, e, past) = (text, text_there text is, e, past)
-    is_there (NoMatch id) is = encoded_alike.unmatched id is
-    is_there (NotExecutable id) is = encoded_alike.not_executable id is
-    is_there GoalFalse is = encoded_alike.misses is
-    is_there NoPlacement is = encoded_alike.no_place is
-    is_there (NeedsBound width) (wide, needs) = (encoded_alike.width width wide, needs)
-    is_there (TooWide width) (wide, none, many) = (encoded_alike.width width wide, none, many)
-
     one_step_text : (t u : StepText) → Is x.0 x.1 t → Is y.0 y.1 u → t ≡ u
     one_step_text t u is are =
         once y.2.problem_is.value request.checks y.0 (is_of y) y.1 (read-sound l y.1 y.2.read) given longest_output t u
-        (subst (λ z. Is y.0 z t) plan_same (is_there t is)) are
+        (subst (λ z. Is y.0 z t) plan_same (step_text_there x.0 y.0 x.1 given encoded_alike longest_output t is)) are
 
   -- what is made of any number of lines
   data Encodes (x : Meant) : Answer → Type 0 where

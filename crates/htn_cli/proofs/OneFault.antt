@@ -4,6 +4,8 @@ use Rattle.std.proofs.lemmas.Bool.{cases_lt}
 use Rattle.text_forms.specs.Faults.{Fault, fault, IsBefore}
 use Rattle.hddl_reader.specs.declared.sections.Language.{Language}
 use Rattle.hddl_reader.specs.declared.sections.Language.TheVariants as language
+use Rattle.plan_model.specs.declared.options.Checks.{Checks}
+use Rattle.plan_model.specs.declared.options.Checks.TheVariants.{Leaf}
 use Rattle.plan_model.specs.declared.steps.GroundAction.{GroundAction}
 use Rattle.plan_model.specs.declared.values.Compiled.{Compiled}
 use Rattle.plan_model.specs.declared.values.Pddl.{Pddl}
@@ -11,19 +13,23 @@ use Rattle.plan_text.specs.Plans.{IsPlanFault, IsPlanRead}
 use Rattle.hplan_text.specs.declared.values.HPlan.{HPlan}
 use Rattle.hplan_text.specs.HPlanFaults as hplans
 use Rattle.text_values.specs.FaultWords.{fault_word}
-use Rattle.text_values.specs.TextFaults.{HaveNoFault}
+use Rattle.text_values.specs.TextFaults.{HaveNoFault, IsLeastFault}
 use Rattle.text_values.proofs.OneFault.{have_one_fault, has_one_plan_fault}
+use Rattle.made_transport.specs.Made.{made_domain}
 use Rattle.command_words.specs.Names.{Word}
-use Rattle.command_words.specs.Words.{DecodeRequest, EncodeRequest, Request, to_translate, to_bound, to_decode, to_encode, to_validate}
+use Rattle.command_words.specs.Words.{TranslationRequest, DecodeRequest, EncodeRequest, MakeRequest, Request, to_translate, to_bound, to_decode, to_encode, to_validate, to_make}
 use Rattle.htn_cli.specs.Answer.{Output, refuses}
 use Rattle.htn_cli.specs.Answers.{IsLeastOf, Refuses, Gives, RefusesFault}
 use Rattle.htn_cli.specs.Decoding.{SpellSteps}
 use Rattle.htn_cli.specs.Encoding.{SpellHPlan}
 use Rattle.htn_cli.specs.Faults.{IsFaultAt, limit_code, place_text, fault_text}
+use Rattle.htn_cli.specs.Making.{problem_of, translation_for, RefusesMake, GivesMake}
 use Rattle.htn_cli.specs.OneAnswer.{TellTheSame}
+use Rattle.htn_cli.specs.Problem.{SpellProblem}
 use Rattle.htn_cli.specs.Refusal.{counted_word}
-use Rattle.htn_cli.specs.Requests.{inputs_of}
+use Rattle.htn_cli.specs.Requests.{names_told}
 use Rattle.htn_cli.specs.LeastFaults.{IsLeastOfThree, IsLeastWithPlan, IsLeastWithHPlan, of_problem, of_third}
+use Rattle.htn_cli.specs.Translation.{RefusesTranslation}
 use Rattle.htn_cli.specs.Validation.{Spell}
 use Rattle.htn_cli.specs.declared.faults.Counted.{Counted}
 use Rattle.htn_cli.specs.declared.faults.Counted.TheVariants.{Depth, Subtasks, Types}
@@ -120,14 +126,42 @@ one_least (to_bound r) (d ∷ p ∷ []) file code at f other more place g = (hav
 one_least (to_decode r) (d ∷ p ∷ plan ∷ []) file code at f other more place g = one_of_three language.Hddl d p _ (plan_one plan) file code at f other more place g
 one_least (to_encode r) (d ∷ p ∷ hplan ∷ []) file code at f other more place g = one_of_three language.Hddl d p _ (hplan_one hplan) file code at f other more place g
 one_least (to_validate r) (d ∷ p ∷ plan ∷ []) file code at f other more place g = one_of_three language.Pddl d p _ (plan_one plan) file code at f other more place g
+one_least (to_make r) [] file code at f other more place g = (have_one_fault language.Hddl made_domain (problem_of r)).one file code at f other more place g
 one_least _ _ file code at f other more place g = absurd f
+
+-- two texts that spell a problem have no fault
+no_fault : (d p : List ℕ) (checks : Checks) (c : Compiled) → SpellProblem d p checks c → (file code at : ℕ) → IsLeastFault language.Hddl d p file code at → ⊥
+no_fault d p checks c s file code at f = (have_one_fault language.Hddl d p).none s.read.faultless file code at f
+
+translation_faultless : (r : TranslationRequest) (d p : List ℕ) (refusal : Refusal) → RefusesTranslation r d p refusal → (file code at : ℕ) → IsLeastFault language.Hddl d p file code at → ⊥
+translation_faultless r d p (refused.Finding (finding.NotTailRecursive words)) (none, (c, s, named)) file code at f = no_fault d p r.checks c s file code at f
+translation_faultless r d p (refused.Limit limit.Bound) (none, (n, (c, s, bound), past)) file code at f = no_fault d p r.checks c s file code at f
+translation_faultless r d p (refused.Limit (limit.Slots m)) (none, (n, (c, s, bound), past)) file code at f = no_fault d p r.checks c s file code at f
+translation_faultless r d p (refused.Limit (limit.Output n)) (c, slots, source, long) file code at f = no_fault d p r.checks c source.problem_is file code at f
+translation_faultless r d p _ x file code at f = absurd x
+
+-- of a made problem
+module _ (r : MakeRequest) where
+  abbrev Least : (file code at : ℕ) → Type 0
+  Least = IsLeastFault language.Hddl made_domain (problem_of r)
+
+  gives_made_faultless : (output : Output) → GivesMake r output → (file code at : ℕ) → Least file code at → ⊥
+  gives_made_faultless output (texts, actions, bound, width, steps, are, e) file code at f =
+      no_fault made_domain (problem_of r) Leaf are.written.compiled are.written.source.problem_is file code at f
+
+  made_faultless : (refusal : Refusal) → RefusesMake r refusal → (file code at : ℕ) → Least file code at → ⊥
+  made_faultless (refused.Finding found) (inl x) file code at f = translation_faultless (translation_for r) made_domain (problem_of r) (refused.Finding found) x file code at f
+  made_faultless (refused.Finding found) (inr (c, bound, source, is)) file code at f = no_fault made_domain (problem_of r) Leaf c source.problem_is file code at f
+  made_faultless (refused.Limit limit.Bound) x file code at f = translation_faultless (translation_for r) made_domain (problem_of r) (refused.Limit limit.Bound) x file code at f
+  made_faultless (refused.Limit (limit.Slots n)) (inl x) file code at f = translation_faultless (translation_for r) made_domain (problem_of r) (refused.Limit (limit.Slots n)) x file code at f
+  made_faultless (refused.Limit (limit.Slots n)) (inr (c, bound, source, wide, past)) file code at f = no_fault made_domain (problem_of r) Leaf c source.problem_is file code at f
+  made_faultless (refused.Limit (limit.Output n)) (inl (c, bound, width, steps, source, counted, long)) file code at f = no_fault made_domain (problem_of r) Leaf c source.problem_is file code at f
+  made_faultless (refused.Limit (limit.Output n)) (inr (output, gives, e, long)) file code at f = gives_made_faultless output gives file code at f
+  made_faultless _ x file code at f = absurd x
 
 -- texts that are declined have no fault
 declined_faultless : (request : Request) (texts : List (List ℕ)) (refusal : Refusal) → Refuses request texts refusal → (file code at : ℕ) → IsLeastOf request texts file code at → ⊥
-declined_faultless (to_translate r) (d ∷ p ∷ []) (refused.Finding (finding.NotTailRecursive words)) (none, (c, s, named)) file code at f = (have_one_fault language.Hddl d p).none s.read.faultless file code at f
-declined_faultless (to_translate r) (d ∷ p ∷ []) (refused.Limit limit.Bound) (none, (n, (c, s, bound), past)) file code at f = (have_one_fault language.Hddl d p).none s.read.faultless file code at f
-declined_faultless (to_translate r) (d ∷ p ∷ []) (refused.Limit (limit.Slots m)) (none, (n, (c, s, bound), past)) file code at f = (have_one_fault language.Hddl d p).none s.read.faultless file code at f
-declined_faultless (to_translate r) (d ∷ p ∷ []) (refused.Limit (limit.Output n)) (c, slots, source, long) file code at f = (have_one_fault language.Hddl d p).none source.problem_is.read.faultless file code at f
+declined_faultless (to_translate r) (d ∷ p ∷ []) refusal x file code at f = translation_faultless r d p refusal x file code at f
 declined_faultless (to_bound r) (d ∷ p ∷ []) (refused.Finding (finding.NotTailRecursive words)) (c, s, named) file code at f = (have_one_fault language.Hddl d p).none s.read.faultless file code at f
 declined_faultless (to_bound r) (d ∷ p ∷ []) (refused.Limit limit.Bound) (n, (c, s, bound), past) file code at f = (have_one_fault language.Hddl d p).none s.read.faultless file code at f
 declined_faultless (to_decode r) (d ∷ p ∷ plan ∷ []) (refused.Limit (limit.Steps n)) (c, steps, s, e, many) file code at f = fault_or_steps r d p plan c steps s file code at f
@@ -142,6 +176,7 @@ declined_faultless (to_encode r) (d ∷ p ∷ hplan ∷ []) (refused.Limit (limi
 declined_faultless (to_encode r) (d ∷ p ∷ hplan ∷ []) (refused.Limit (limit.Output n)) (c, plan, text, s, is, e, long) file code at f = fault_or_hplan r d p hplan c plan s.spelled file code at f
 declined_faultless (to_validate r) (d ∷ p ∷ plan ∷ []) (refused.Limit (limit.Steps n)) (c, steps, s, e, many) file code at f = fault_or_spelled d p plan c steps s file code at f
 declined_faultless (to_validate r) (d ∷ p ∷ plan ∷ []) (refused.Finding (finding.NotAPlan step why)) (c, steps, s, fails) file code at f = fault_or_spelled d p plan c steps s.spelled file code at f
+declined_faultless (to_make r) [] refusal x file code at f = made_faultless r refusal x file code at f
 declined_faultless _ _ refusal x file code at f = absurd x
 
 given_faultless : (request : Request) (texts : List (List ℕ)) (output : Output) → Gives request texts output → (file code at : ℕ) → IsLeastOf request texts file code at → ⊥
@@ -150,6 +185,7 @@ given_faultless (to_bound r) (d ∷ p ∷ []) output (n, (c, s, bound), small, e
 given_faultless (to_decode r) (d ∷ p ∷ plan ∷ []) output (c, steps, slots, text, source, have, e) file code at f = fault_or_steps r d p plan c steps source.spelled.spelled file code at f
 given_faultless (to_encode r) (d ∷ p ∷ hplan ∷ []) output (c, plan, text, s, is, e) file code at f = fault_or_hplan r d p hplan c plan s.spelled file code at f
 given_faultless (to_validate r) (d ∷ p ∷ plan ∷ []) output ((c, steps, s, is), e) file code at f = fault_or_spelled d p plan c steps s.spelled file code at f
+given_faultless (to_make r) [] output x file code at f = gives_made_faultless r output x file code at f
 given_faultless _ _ output x file code at f = absurd x
 
 one_name : (one other : Option Word) (a b : Word) → one ≡ other → one ≡ Some a → other ≡ Some b → a ≡ b
@@ -157,12 +193,12 @@ one_name one other a b e f g = let h : Some a ≡ Some b = sym f ∙ e ∙ g in 
 
 module _ (request : Request) (texts : List (List ℕ)) where
   abbrev At : Place → ℕ → Type 0
-  At = IsFaultAt (inputs_of request) (IsLeastOf request texts)
+  At = IsFaultAt (names_told request) (IsLeastOf request texts)
 
   one_place : (one other : Place) (code more : ℕ) → At one code → At other more → AreOnePlace one other × (code ≡ more)
   one_place one other code more f g =
       let e = one_least request texts f.file code one.at f.least g.file more other.at g.least in
-      (record { name = one_name (slice_get (inputs_of request) f.file) (slice_get (inputs_of request) g.file) one.name.now other.name.now (ap (slice_get (inputs_of request)) e.0) f.name_is g.name_is; at = e.2 }, e.1)
+      (record { name = one_name (slice_get (names_told request) f.file) (slice_get (names_told request) g.file) one.name.now other.name.now (ap (slice_get (names_told request)) e.0) f.name_is g.name_is; at = e.2 }, e.1)
 
   pub one_fault : (a b : Refusal) → RefusesFault request texts a → RefusesFault request texts b → TellTheSame (refuses a) (refuses b)
   one_fault (refused.Fault place code) (refused.Fault there more) (f, free) (g, also) =

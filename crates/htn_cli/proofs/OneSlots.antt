@@ -19,20 +19,20 @@ use Rattle.htn_cli.specs.declared.refusal.Refusal.TheVariants as refused
 use Rattle.htn_cli.proofs.OneProblem.{bound_same, cycle_words_same, cycle_or_bound}
 
 -- so many slots are past one limit
-pub past_few : (n : ℕ) (refusal : Refusal) → RefusesSlots n refusal → most_slots < n
-past_few n (refused.Limit limit.Bound) l = omega (arith, l)
-past_few n (refused.Limit (limit.Slots m)) (e, l, few) = l
-past_few n _ l = absurd l
+pub past_few : (most n : ℕ) → most ≤ most_slots → (refusal : Refusal) → RefusesSlots most n refusal → most < n
+past_few most n small (refused.Limit limit.Bound) l = omega (arith, l, small)
+past_few most n small (refused.Limit (limit.Slots m)) (e, l, few) = l
+past_few most n small _ l = absurd l
 
-pub one_past : (n m : ℕ) → n ≡ m → (a b : Refusal) → RefusesSlots n a → RefusesSlots m b → TellTheSame (refuses a) (refuses b)
-one_past n m e (refused.Limit limit.Bound) (refused.Limit limit.Bound) l k = record { status = refl; line = refl; output = refl }
-one_past n m e (refused.Limit limit.Bound) (refused.Limit (limit.Slots i)) l (f, k, few) = absurd (omega (arith, e, l, few))
-one_past n m e (refused.Limit (limit.Slots i)) (refused.Limit limit.Bound) (f, l, few) k = absurd (omega (arith, e, k, few))
-one_past n m e (refused.Limit (limit.Slots i)) (refused.Limit (limit.Slots j)) (f, l, few) (g, k, less) =
+pub one_past : (most n m : ℕ) → n ≡ m → (a b : Refusal) → RefusesSlots most n a → RefusesSlots most m b → TellTheSame (refuses a) (refuses b)
+one_past most n m e (refused.Limit limit.Bound) (refused.Limit limit.Bound) l k = record { status = refl; line = refl; output = refl }
+one_past most n m e (refused.Limit limit.Bound) (refused.Limit (limit.Slots i)) l (f, k, few) = absurd (omega (arith, e, l, few))
+one_past most n m e (refused.Limit (limit.Slots i)) (refused.Limit limit.Bound) (f, l, few) k = absurd (omega (arith, e, k, few))
+one_past most n m e (refused.Limit (limit.Slots i)) (refused.Limit (limit.Slots j)) (f, l, few) (g, k, less) =
     record { status = refl; line = ap (λ z. line_of (refused.Limit (limit.Slots z))) (f ∙ e ∙ sym g); output = refl }
-one_past n m e (refused.Limit limit.Bound) _ l k = absurd k
-one_past n m e (refused.Limit (limit.Slots i)) _ l k = absurd k
-one_past n m e _ b l k = absurd l
+one_past most n m e (refused.Limit limit.Bound) _ l k = absurd k
+one_past most n m e (refused.Limit (limit.Slots i)) _ l k = absurd k
+one_past most n m e _ b l k = absurd l
 
 abbrev pub by_cycle : List ℕ → Answer
 by_cycle words = refuses (refused.Finding (finding.NotTailRecursive words))
@@ -44,7 +44,7 @@ one_cycle words more e = record { status = refl; line = ap (λ z. line_of (refus
 -- made with so many slots.
 pub data Follows (numeral : Option Word) (c : Compiled) (Makes : ℕ → Answer → Type 0) : Answer → Type 0 where
   cycle : (words : List ℕ) → numeral ≡ None → NamesCycle c words → Follows numeral c Makes (by_cycle words)
-  out : (n : ℕ) (refusal : Refusal) → numeral ≡ None → IsBound c n → RefusesSlots n refusal → Follows numeral c Makes (refuses refusal)
+  out : (n : ℕ) (refusal : Refusal) → numeral ≡ None → IsBound c n → RefusesSlots most_slots n refusal → Follows numeral c Makes (refuses refusal)
   within : (slots : ℕ) (a : Answer) → AreSlotsOf c numeral slots → 1 ≤ slots → slots ≤ most_slots → Makes slots a
       → Follows numeral c Makes a
 
@@ -66,10 +66,10 @@ module _ (d p : List ℕ) (checks : Checks) (numeral : Option Word) where
   abbrev cycle_not : (x y : Source) (words : List ℕ) (n : ℕ) → NamesCycle x.0 words → IsBound y.0 n → ⊥
   cycle_not x y words n = cycle_or_bound d p checks x.0 y.0 x.1 y.1 words n
 
-  past_or_within : (x y : Source) (n slots : ℕ) (refusal : Refusal) → numeral ≡ None → IsBound x.0 n → RefusesSlots n refusal
+  past_or_within : (x y : Source) (n slots : ℕ) (refusal : Refusal) → numeral ≡ None → IsBound x.0 n → RefusesSlots most_slots n refusal
       → AreSlotsOf y.0 numeral slots → slots ≤ most_slots → ⊥
   past_or_within x y n slots refusal e l past s few =
-      let same = slots_by x y None n slots l (bound_of y slots e s) in let many = past_few n refusal past in omega (arith, same, many, few)
+      let same = slots_by x y None n slots l (bound_of y slots e s) in let many = past_few most_slots n (omega arith) refusal past in omega (arith, same, many, few)
 
   pub one_follows : (x y : Source) (P Q : ℕ → Answer → Type 0) → MakeOne P Q → (a b : Answer) → Follows numeral x.0 P a → Follows numeral y.0 Q b
       → TellTheSame a b
@@ -78,7 +78,7 @@ module _ (d p : List ℕ) (checks : Checks) (numeral : Option Word) where
   one_follows x y P Q one a b (cycle words e k) (out n c f l o) = absurd (cycle_not x y words n k l)
   one_follows x y P Q one a b (cycle words e k) (within slots c s some few q) = absurd (cycle_not x y words slots k (bound_of y slots e s))
   one_follows x y P Q one a b (out n c f l o) (cycle words e k) = absurd (cycle_not y x words n k l)
-  one_follows x y P Q one a b (out n c e l o) (out m q f k u) = one_past n m (slots_by x y None n m l k) c q o u
+  one_follows x y P Q one a b (out n c e l o) (out m q f k u) = one_past most_slots n m (slots_by x y None n m l k) c q o u
   one_follows x y P Q one a b (out n c e l o) (within slots q s some few r) = absurd (past_or_within x y n slots c e l o s few)
   one_follows x y P Q one a b (within slots c s some few q) (cycle words e k) = absurd (cycle_not y x words slots k (bound_of x slots e s))
   one_follows x y P Q one a b (within slots c s some few q) (out n r e l o) = absurd (past_or_within y x n slots r e l o s few)

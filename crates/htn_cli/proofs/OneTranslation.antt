@@ -35,19 +35,19 @@ TranslationComes request d p (refuses refusal) = RefusesTranslation request d p 
 TranslationComes request d p (gives output) = GivesTranslation request d p output
 
 module _ (request : TranslationRequest) (d p : List ℕ) where
-  abbrev Source : Type 0
+  abbrev pub Source : Type 0
   Source = (c : Compiled) × SpellProblem d p request.checks c
 
   -- what is printed with so many slots
-  data Prints (x : Source) (slots : ℕ) : Answer → Type 0 where
+  pub data Prints (x : Source) (slots : ℕ) : Answer → Type 0 where
     long : (n : ℕ) → AreTooLong x.0 (manner_with request d p slots) n → Prints x slots (refuses (refused.Limit (limit.Output n)))
     written : (texts : Texts) (output : Output) → AreTranslated x.1.value x.0 (manner_with request d p slots) texts → output ≡ translation_output request.names texts slots
         → Prints x slots (gives output)
 
-  texts_of_both : (x y : Source) (slots : ℕ) (v w : Pddl) → IsFullyEncoded x.0 slots request.style v → IsFullyEncoded y.0 slots request.style w → (domain_text v ≡ domain_text w) × (problem_text v ≡ problem_text w)
+  pub texts_of_both : (x y : Source) (slots : ℕ) (v w : Pddl) → IsFullyEncoded x.0 slots request.style v → IsFullyEncoded y.0 slots request.style w → (domain_text v ≡ domain_text w) × (problem_text v ≡ problem_text w)
   texts_of_both x y slots v w e f = texts_same d p request.checks x.0 y.0 x.1 y.1 slots request.style v w e f
 
-  long_not_written : (x y : Source) (slots n : ℕ) (texts : Texts) → AreTooLong x.0 (manner_with request d p slots) n → AreTranslated y.1.value y.0 (manner_with request d p slots) texts → ⊥
+  pub long_not_written : (x y : Source) (slots n : ℕ) (texts : Texts) → AreTooLong x.0 (manner_with request d p slots) n → AreTranslated y.1.value y.0 (manner_with request d p slots) texts → ⊥
   long_not_written x y slots n texts l t =
       let v = l.encoded in
       let e = texts_of_both x y slots v.value t.value (record { encoded = v.encoded; words = v.words }) (record { encoded = t.printed.encoded; words = t.words }) in
@@ -57,7 +57,7 @@ module _ (request : TranslationRequest) (d p : List ℕ) where
       let pf = t.problem_fits in
       not_long (domain_text v.value) (problem_text v.value) n (l.too_long v.value v.encoded v.words) (omega (arith, dl, df)) (omega (arith, pl, pf))
 
-  same_prints : (x y : Source) (slots : ℕ) (a b : Answer) → Prints x slots a → Prints y slots b → TellTheSame a b
+  pub same_prints : (x y : Source) (slots : ℕ) (a b : Answer) → Prints x slots a → Prints y slots b → TellTheSame a b
   same_prints x y slots a b (long n l) (long m k) =
       let v = l.encoded in
       let w = k.encoded in

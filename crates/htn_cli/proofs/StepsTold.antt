@@ -1,5 +1,5 @@
 -- Steps that were told: what is true of one value of the two texts is true of each.
-use Rattle.std.proofs.Common.{ℕ, ◌≡◌, ◌≤◌, List, [], ◌∷◌, Contains, refl, sym, subst, inl, inr, ⊎_elim, arith}
+use Rattle.std.proofs.Common.{ℕ, ◌≡◌, ◌≤◌, ◌<◌, ◌↔◌, List, [], ◌∷◌, Contains, Option, Some, refl, sym, ◌∙◌, subst, inl, inr, ⊎_elim, arith}
 use Rattle.outside_io.specs.Sink.{SinkState}
 use Rattle.plan_model.specs.declared.steps.GroundAction.{GroundAction}
 use Rattle.plan_model.specs.declared.values.Compiled.{Compiled}
@@ -7,6 +7,8 @@ use Rattle.plan_model.specs.declared.values.Hddl.{Hddl}
 use Rattle.plan_model.specs.task_networks.Net.{Net}
 use Rattle.plan_model.specs.task_networks.Tree.{Tree, Address, label}
 use Rattle.plan_model.specs.task_networks.Pending.{ArePending, IsPending, IsWidth}
+use Rattle.plan_model.specs.declared.options.Checks.{Checks}
+use Rattle.plan_model.specs.plan_meaning.Bound.{IsBound}
 use Rattle.plan_model.specs.plan_meaning.Compilation.{IsCompiled}
 use Rattle.plan_model.specs.plan_meaning.Network.{network}
 use Rattle.plan_model.specs.plan_meaning.Solution.{IsSolution}
@@ -15,6 +17,7 @@ use Rattle.plan_texts.specs.FirstSeen.{IsHddlOf}
 use Rattle.schedules.specs.latest.PlanLines.{IsRenumbering}
 use Rattle.schedules.specs.latest.Shown.{plan_of}
 use Rattle.hplan_text.specs.declared.values.HPlan.{HPlan}
+use Rattle.hplan_text.specs.Printable.{IsSoundHPlan}
 use Rattle.hplan_text.specs.ShownLaws.{IsShownOnce}
 use Rattle.hplan_text.specs.ShownSolutions.{SpellShown}
 use Rattle.hplan_text.proofs.ShownOnce.{each_is_shown_once}
@@ -27,17 +30,18 @@ use Rattle.placements.proofs.PlacedPlans.{placed_are_solutions}
 use Rattle.placements.proofs.RefusedPlans.{refused_are_shown_by_none}
 use Rattle.step_texts.specs.StepTexts.{IsSpelled, slots_for, steps_text}
 use Rattle.decode_answers.specs.DecodeLaws.{IsDecodable, ValuesAreDecodedAlike}
-use Rattle.encode_answers.specs.EncodeLaws.{AreEncodedAlike, ValuesAreEncodedAlike}
+use Rattle.encode_answers.specs.EncodeLaws.{AreEncodedAlike, NoWidthIsPastTheBound, ValuesAreEncodedAlike}
 use Rattle.command_words.specs.Words.{EncodeRequest}
 use Rattle.htn_cli.specs.Encoding.{IsFound, slots_of, SpellHPlan}
 use Rattle.htn_cli.specs.Problem.{SpellProblem}
 use Rattle.htn_cli.specs.Refusal.{line_of}
 use Rattle.htn_cli.specs.Sent.{TakesWhole, Told}
-use Rattle.htn_cli.specs.promise.Steps.{TellsSteps, TellsNoSteps}
+use Rattle.htn_cli.specs.promise.Problems.{ForEach}
+use Rattle.htn_cli.specs.promise.Steps.{SaysWhy, TellsSteps, TellsNoSteps}
 use Rattle.htn_cli.specs.declared.refusal.Finding.{Finding}
 use Rattle.htn_cli.specs.declared.refusal.Finding.TheVariants as finding
 use Rattle.htn_cli.specs.declared.refusal.Refusal.TheVariants as refused
-use Rattle.htn_cli.proofs.EachProblem.{faithful_of_each}
+use Rattle.htn_cli.proofs.EachProblem.{graph, faithful_of_each}
 
 -- at first the root is pending, so a width is at least 1
 module _ (N : Net) (tree : Tree N) where
@@ -53,49 +57,76 @@ module _ (N : Net) (tree : Tree N) where
   some_width : (width : ℕ) (order : List Address) → IsWidth N width tree order → 1 ≤ width
   some_width width order is = is.within [] order ([] ∷ []) refl first_pending
 
+-- a plan of the problem that two texts spell comes to the same over each value of the texts
+module _ (encoded : ValuesAreEncodedAlike) (d p : List ℕ) (checks : Checks) (c : Compiled) (source : SpellProblem d p checks c) (plan : HPlan) where
+  pub of : IsOf source.value checks c
+  of = record { sound = source.read.sound; ordered = source.read.ordered; compiled = source.compiled_is }
+
+  pub each : (h : Hddl) (k : Compiled) → IsHddlOf d p h → IsCompiled h checks k → AreEncodedAlike c k plan
+  each h k s compiled = encoded d p source.value h checks c k plan source.read.spelled s of compiled
+
+  module _ (given : Option ℕ) where
+    found_there : (k : Compiled) → AreEncodedAlike c k plan → (f : Finding) → IsFound c plan given f → IsFound k plan given f
+    found_there k same (finding.NoMatch id) is = same.unmatched id is
+    found_there k same (finding.NotExecutable id) is = same.not_executable id is
+    found_there k same finding.GoalFalse is = same.misses is
+    found_there k same finding.NoPlacement is = same.no_place is
+    found_there k same (finding.NeedsBound width) (wide, needs) = (same.width width wide, needs)
+    found_there k same _ is = absurd is
+
+    -- no solution shows a plan that is refused by a sentence
+    module _ (sound : IsSoundHPlan plan) where
+      not_shown : IsRefused c plan → SomeSolutionShows c plan → ⊥
+      not_shown = refused_are_shown_by_none c source.value checks of plan sound
+
+      none_shown : (f : Finding) → IsFound c plan given f → ((width : ℕ) → f ≡ finding.NeedsBound width → ⊥) → SomeSolutionShows c plan → ⊥
+      none_shown (finding.NoMatch id) is wide = not_shown (inl (id, is))
+      none_shown (finding.NotExecutable id) is wide = not_shown (inr (inl (id, is)))
+      none_shown finding.GoalFalse is wide = not_shown (inr (inr (inl is)))
+      none_shown finding.NoPlacement is wide = not_shown (inr (inr (inr is)))
+      none_shown (finding.NeedsBound width) is wide = absurd (wide width refl)
+      none_shown _ is wide = absurd is
+
+      module _ (past : NoWidthIsPastTheBound) where
+        -- as many slots as the bound are enough
+        enough_slots : (h : Hddl) (k : Compiled) → IsHddlOf d p h → IsCompiled h checks k → (f : Finding) → IsFound c plan given f
+            → (bound slots width : ℕ) → IsBound k bound → given ≡ Some slots → bound ≤ slots → f ≡ finding.NeedsBound width → ⊥
+        enough_slots h k s compiled f is bound slots width b e l g =
+            let (wide, (n, same, less)) = subst (IsFound c plan given) g is in
+            let here = (bound_of_each_back h k s compiled bound).0 b in
+            let fits = past source.value checks c of bound here plan width wide in
+            let again : n ≡ slots = some_same n slots (sym same ∙ e) in
+            omega (arith, fits, less, again, l)
+          where
+            some_same : (n m : ℕ) → Some n ≡ Some m → n ≡ m
+            some_same n m e = cc
+
+            bound_of_each_back : (h : Hddl) (k : Compiled) → IsHddlOf d p h → IsCompiled h checks k → (n : ℕ) → IsBound k n ↔ IsBound c n
+            bound_of_each_back h k s compiled n = (graph d p checks c source h k s compiled).bound n
+
+        -- why the plan has no steps is said of each value
+        pub says_why : (f : Finding) → IsFound c plan given f → ForEach d p checks (λ h k. SaysWhy given plan f k)
+        says_why f is h k s compiled =
+            let same = each h k s compiled in
+            record {
+              sentence = found_there k same f is;
+              none = λ wide x. none_shown f is wide (same.shown.1 x);
+              enough = enough_slots h k s compiled f is;
+            }
+
 module _ (encoded : ValuesAreEncodedAlike) (request : EncodeRequest) (d p hplan : List ℕ) (c : Compiled) (plan : HPlan) (spelled : SpellHPlan request d p hplan c plan) where
   abbrev source : SpellProblem d p request.checks c
   source = spelled.problem_is
 
-  of : IsOf source.value request.checks c
-  of = record { sound = source.read.sound; ordered = source.read.ordered; compiled = source.compiled_is }
-
-  -- the plan comes to the same over each value of the two texts
-  each : (h : Hddl) (k : Compiled) → IsHddlOf d p h → IsCompiled h request.checks k → AreEncodedAlike c k plan
-  each h k s compiled = encoded d p source.value h request.checks c k plan source.read.spelled s of compiled
-
-  found_there : (k : Compiled) → AreEncodedAlike c k plan → (f : Finding) → IsFound c plan (slots_of request) f → IsFound k plan (slots_of request) f
-  found_there k same (finding.NoMatch id) is = same.unmatched id is
-  found_there k same (finding.NotExecutable id) is = same.not_executable id is
-  found_there k same finding.GoalFalse is = same.misses is
-  found_there k same finding.NoPlacement is = same.no_place is
-  found_there k same (finding.NeedsBound width) (wide, needs) = (same.width width wide, needs)
-  found_there k same _ is = absurd is
-
-  -- no solution shows a plan that is refused by a sentence
-  not_shown : IsRefused c plan → SomeSolutionShows c plan → ⊥
-  not_shown = refused_are_shown_by_none c source.value request.checks of plan (read-sound hplan plan spelled.read)
-
-  none_shown : (f : Finding) → IsFound c plan (slots_of request) f → ((width : ℕ) → f ≡ finding.NeedsBound width → ⊥) → SomeSolutionShows c plan → ⊥
-  none_shown (finding.NoMatch id) is wide = not_shown (inl (id, is))
-  none_shown (finding.NotExecutable id) is wide = not_shown (inr (inl (id, is)))
-  none_shown finding.GoalFalse is wide = not_shown (inr (inr (inl is)))
-  none_shown finding.NoPlacement is wide = not_shown (inr (inr (inr is)))
-  none_shown (finding.NeedsBound width) is wide = absurd (wide width refl)
-  none_shown _ is wide = absurd is
-
   -- a plan that was said to have no steps
-  pub no_steps_here : (f : Finding) → IsFound c plan (slots_of request) f → (err err' : SinkState) → Told (line_of (refused.Finding f)) err err' → TellsNoSteps request d p hplan err err'
-  no_steps_here f is err err' told =
+  pub no_steps_here : NoWidthIsPastTheBound → (f : Finding) → IsFound c plan (slots_of request) f → (err err' : SinkState) → Told (line_of (refused.Finding f)) err err' → TellsNoSteps request d p hplan err err'
+  no_steps_here past f is err err' told =
       record {
         plan = plan;
         read = spelled.read;
         found = f;
         told = told;
-        says = λ h k s compiled. (
-            let same = each h k s compiled in
-            record { sentence = found_there k same f is; none = λ wide x. none_shown f is wide (same.shown.1 x) }
-            );
+        says = says_why encoded d p request.checks c source plan (slots_of request) (read-sound hplan plan spelled.read) past f is;
       }
 
   module _ (alike : ValuesAreDecodedAlike) (width : ℕ) (steps : List GroundAction) (is : IsSpelled c plan (slots_for (slots_of request) width) width steps) where
@@ -103,7 +134,7 @@ module _ (encoded : ValuesAreEncodedAlike) (request : EncodeRequest) (d p hplan 
     slots = slots_for (slots_of request) width
 
     placed : IsSolution c is.tree is.order × ShowsUnderSomeIds c plan is.tree is.order
-    placed = placed_are_solutions c source.value request.checks of plan is.tree is.order is.placed
+    placed = placed_are_solutions c source.value request.checks (of encoded d p request.checks c source plan) plan is.tree is.order is.placed
 
     some_slot : 1 ≤ slots
     some_slot = let some = some_width (network c) is.tree width is.order is.width_is in let within = is.within in omega (arith, some, within)
@@ -136,7 +167,7 @@ module _ (encoded : ValuesAreEncodedAlike) (request : EncodeRequest) (d p hplan 
       slots = slots;
       slots_are = refl;
       told = told;
-      latest = λ h k s compiled. (each h k s compiled).spelled slots width steps is;
+      latest = λ h k s compiled. (each encoded d p request.checks c source plan h k s compiled).spelled slots width steps is;
       shown = once.plan;
       shows = each_shown;
       new = placed.1.0;

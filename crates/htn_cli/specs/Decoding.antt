@@ -41,7 +41,8 @@ module _ (request : DecodeRequest) (domain problem plan : List ℕ) where
   -- the bound of the problem, where no number of slots is given, is past a limit
   abbrev pub RefusesBoundOf : Refusal → Type 0
   RefusesBoundOf refusal = (request.numeral ≡ None)
-      × ((compiled : Compiled) × (steps : List GroundAction) × (n : ℕ) × SpellFewSteps compiled steps × IsBound compiled n × RefusesSlots n refusal)
+      × ((compiled : Compiled) × (steps : List GroundAction) × (n : ℕ) × SpellFewSteps compiled steps × IsBound compiled n
+      × RefusesSlots most_slots n refusal)
 
   -- the refusals of texts without a fault
   abbrev pub RefusesDecode : Refusal → Type 0

@@ -1,13 +1,13 @@
 -- How a run ends.
 -- Source: this project's.
-use Rattle.std.specs.Prelude.{ℕ, ◌≡◌, ◌⊎◌, List, [], Some}
+use Rattle.std.specs.Prelude.{ℕ, ◌≡◌, ◌<◌, ◌⊎◌, List, [], Some}
 use Rattle.outside_io.specs.Files.{FilesState}
 use Rattle.outside_io.specs.Sink.{SinkState}
 use Rattle.command_words.specs.Names.{Word}
 use Rattle.command_words.specs.Words.{Request, Asks, AreOfAForm}
 use Rattle.htn_cli.specs.Answer.{Output, Answer, refuses, gives}
 use Rattle.htn_cli.specs.Answers.{IsAnswer, IsAnswerTo}
-use Rattle.htn_cli.specs.Requests.{outputs_of, slots_given}
+use Rattle.htn_cli.specs.Requests.{outputs_of, slots_given, most_slots_of}
 use Rattle.htn_cli.specs.Refusal.{status_of, line_of}
 use Rattle.htn_cli.specs.Sent.{TakesWhole, Told}
 use Rattle.htn_cli.specs.Left.{StandsUpTo, Leave, Leaves}
@@ -87,6 +87,10 @@ module _ (words : List Word) (files files' : FilesState) (out out' : SinkState) 
 -- the words ask for so many slots
 abbrev pub AskForSlots : List Word → ℕ → Type 0
 AskForSlots words n = (request : Request) × Asks words request × (slots_given request ≡ Some n)
+
+-- and for more than are printed
+abbrev pub AskForTooMany : List Word → ℕ → Type 0
+AskForTooMany words n = (request : Request) × Asks words request × (slots_given request ≡ Some n) × (most_slots_of request < n)
 
 -- the words ask for what writes no file
 abbrev pub AskForNoFile : List Word → Type 0

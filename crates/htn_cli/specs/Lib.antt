@@ -15,6 +15,7 @@ pub mod LeastFaults
 pub mod Validation
 pub mod Decoding
 pub mod Encoding
+pub mod Making
 pub mod Answers
 pub mod Left
 pub mod Ending
@@ -28,4 +29,5 @@ pub mod Printing
 pub mod Stops
 pub mod EncodeStops
 pub mod Made
+pub mod MakeStops
 pub mod Calling

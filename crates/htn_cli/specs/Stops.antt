@@ -1,5 +1,5 @@
 -- How one step of a run is refused: what it leaves, and with which refusal it ends the run.
-use Rattle.std.specs.Prelude.{◌≡◌, ◌<◌, ◌≤◌, ◌^◌, ◌⊎◌, ℕ, List, Option, Some, None, IfSome, length}
+use Rattle.std.specs.Prelude.{◌≡◌, ◌≢◌, ◌<◌, ◌≤◌, ◌^◌, ◌⊎◌, ℕ, List, Option, Some, None, IfSome, length}
 use Rattle.htn_base.specs.Limits.{longest_input, longest_output, most_slots, most_steps}
 use Rattle.outside_io.specs.Files.{FilesState, GetFails, PutFails}
 use Rattle.outside_io.specs.Sink.{SinkState}
@@ -16,8 +16,8 @@ use Rattle.text_values.specs.PddlValues as pddl
 use Rattle.hddl_reader.specs.declared.sections.Language.TheVariants as language
 use Rattle.bound_calc.specs.NoBound.{NamesCycle}
 use Rattle.command_words.specs.Names.{Word, AreApart}
-use Rattle.command_words.specs.Bounds.{IsNumeral}
-use Rattle.command_words.specs.Words.{Request, translation_of, decode_of, encode_of, number_of}
+use Rattle.command_words.specs.Bounds.{IsNumeral, IsCount}
+use Rattle.command_words.specs.Words.{Request, translation_of, decode_of, encode_of, make_of, number_of}
 use Rattle.command_words.specs.declared.asking.Asked.{Asked}
 use Rattle.command_words.specs.declared.asking.Asked.TheVariants as asked
 use Rattle.htn_cli.specs.Answer.{Text, Output, refuses}
@@ -121,7 +121,7 @@ IsGiven (Some numeral) None = ⊥
 IsGiven None (Some slots) = ⊥
 
 abbrev pub StopsGiven : Option Word → Refusal → Type 0
-StopsGiven (Some numeral) refusal = RefusesSlots (number_of numeral) refusal
+StopsGiven (Some numeral) refusal = RefusesSlots most_slots (number_of numeral) refusal
 StopsGiven None refusal = ⊥
 
 -- the bound of the problem, as a number of slots
@@ -129,7 +129,7 @@ abbrev pub IsComputed : Compiled → ℕ → Type 0
 IsComputed compiled slots = (n : ℕ) × IsBound compiled n × AreSlots n slots
 
 abbrev pub StopsComputed : Compiled → Refusal → Type 0
-StopsComputed compiled refusal = StopsBound compiled refusal ⊎ ((n : ℕ) × IsBound compiled n × RefusesSlots n refusal)
+StopsComputed compiled refusal = StopsBound compiled refusal ⊎ ((n : ℕ) × IsBound compiled n × RefusesSlots most_slots n refusal)
 
 -- a text that was not made
 abbrev pub StopsPrinted : Compiled → Manner → Refusal → Type 0
@@ -232,9 +232,10 @@ IsRefusalOf place code (refused.Fault at other) = (at ≡ place) × (other ≡ c
 IsRefusalOf place code (refused.Limit (limit.Text counted at)) = (at ≡ place) × (code ≡ limit_code counted)
 IsRefusalOf place code _ = ⊥
 
--- what is asked for keeps the rules of words: a numeral is one, and the outputs of a translation are apart
+-- what is asked for keeps the rules of words: a numeral is one, a count is one, and outputs are apart
 abbrev pub IsWellAsked : Asked → Type 0
 IsWellAsked (asked.Translation t) = IfSome (translation_of t).numeral IsNumeral × AreApart (translation_of t).names
 IsWellAsked (asked.Decoding d) = IfSome (decode_of d).numeral IsNumeral
 IsWellAsked (asked.Encoding e) = IfSome (encode_of e).numeral IsNumeral
+IsWellAsked (asked.Making m) = IsCount (make_of m).numeral × ((make_of m).printed_domain ≢ (make_of m).printed_problem)
 IsWellAsked _ = Unit {0}

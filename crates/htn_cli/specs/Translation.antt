@@ -6,7 +6,7 @@ use Rattle.plan_model.specs.declared.values.Compiled.{Compiled}
 use Rattle.plan_model.specs.plan_meaning.Bound.{IsBound}
 use Rattle.command_words.specs.Names.{Word, Names}
 use Rattle.command_words.specs.Words.{TranslationRequest, number_of}
-use Rattle.htn_cli.specs.Answer.{Output}
+use Rattle.htn_cli.specs.Answer.{Text, Output}
 use Rattle.htn_cli.specs.Lines.{slots_line}
 use Rattle.htn_cli.specs.Problem.{SpellProblem, HaveBound, HaveCycle}
 use Rattle.htn_cli.specs.Slots.{RefusesSlots}
@@ -22,14 +22,14 @@ abbrev pub AreSlotsOf : Compiled → Option Word → ℕ → Type 0
 AreSlotsOf compiled (Some numeral) n = n ≡ number_of numeral
 AreSlotsOf compiled None n = IsBound compiled n
 
--- what a translation gives: both texts for the files of these names, and the number of slots
+-- both texts for the files of these names
+abbrev pub texts_for : Names → Texts → List Text
+texts_for names texts =
+    record { name = names.printed_domain; bytes = texts.domain } ∷ record { name = names.printed_problem; bytes = texts.problem } ∷ []
+
+-- what a translation gives: these, and the number of slots
 abbrev pub translation_output : Names → Texts → ℕ → Output
-translation_output names texts slots = record {
-  texts =
-      record { name = names.printed_domain; bytes = texts.domain }
-      ∷ record { name = names.printed_problem; bytes = texts.problem } ∷ [];
-  told = slots_line slots;
-}
+translation_output names texts slots = record { texts = texts_for names texts; told = slots_line slots }
 
 module _ (request : TranslationRequest) (domain problem : List ℕ) where
   abbrev pub manner_with : ℕ → Manner
@@ -50,7 +50,7 @@ module _ (request : TranslationRequest) (domain problem : List ℕ) where
 
   -- the bound of the problem, where no number of slots is given, is past a limit
   abbrev pub RefusesBoundOf : Refusal → Type 0
-  RefusesBoundOf refusal = (request.numeral ≡ None) × ((n : ℕ) × HaveBound domain problem request.checks n × RefusesSlots n refusal)
+  RefusesBoundOf refusal = (request.numeral ≡ None) × ((n : ℕ) × HaveBound domain problem request.checks n × RefusesSlots most_slots n refusal)
 
   -- the refusals of texts without a fault
   abbrev pub RefusesTranslation : Refusal → Type 0

@@ -1,7 +1,10 @@
 pub mod Problems
+pub mod Cycle
 pub mod Headline
 pub mod Bound
 pub mod Plan
 pub mod Tree
 pub mod Steps
+pub mod Making
 pub mod Finding
+pub mod Promise

@@ -14,6 +14,7 @@ mod delivery;
 mod encode;
 mod faults;
 mod laws;
+mod make;
 mod manner;
 mod output;
 mod problem;

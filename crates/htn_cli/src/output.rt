@@ -1,5 +1,7 @@
-ghost use Rattle.std.specs.Prelude.{◌≡◌, ◌++◌, codes, IfOk, IfErr};
-ghost use Rattle.htn_cli.specs.Lines.{slots_line, bound_line, valid_line};
+ghost use Rattle.std.specs.Prelude.{◌≡◌, ◌≤◌, ◌++◌, codes, length, IfOk, IfErr, OnOk};
+ghost use Rattle.htn_base.specs.Limits.{longest_output};
+ghost use Rattle.htn_cli.specs.Lines.{bound_line, count_line, slots_line, valid_line};
+ghost use Rattle.htn_cli.specs.MakeStops.{summary_of};
 ghost use Rattle.htn_cli.specs.Stops.{IsWant};
 
 use crate::refusal::{Failure, Refusal};
@@ -19,6 +21,16 @@ pub(crate) struct Written<'a> {
     pub(crate) od: &'a str,
     pub(crate) op: &'a str,
     pub(crate) texts: Texts,
+}
+
+/// What is told of a made problem and of its plan.
+#[derive(Clone, Copy)]
+pub(crate) struct Counts {
+    pub(crate) packages: u32,
+    pub(crate) actions: u128,
+    pub(crate) bound: u32,
+    pub(crate) width: u32,
+    pub(crate) steps: u32,
 }
 
 impl Drop for Output<'_> {
@@ -64,6 +76,37 @@ pub(crate) fn valid_told<'a>(alloc: Global) -> Result<Text, Refusal<'a>>
     ensures refused { IfErr result IsWant }
 {
     made(line_of(alloc, b"valid", b""))
+}
+
+/// The lines of a made problem.
+pub(crate) fn summary_told<'a>(alloc: Global, counts: Counts) -> Result<Text, Refusal<'a>>
+    ensures lines { IfOk result (λ text. text ≡ summary_of counts) }
+    ensures short { IfOk result (λ text. length text ≤ longest_output) }
+    ensures refused { IfErr result IsWant }
+{
+    made(summary_of(alloc, &counts))
+}
+
+fn summary_of(alloc: Global, counts: &Counts) -> Result<Text, Memory>
+    ensures { IfOk result (λ text. text ≡ summary_of counts.now) }
+{
+    let mut text = Text::new(alloc);
+    push_line(&mut text, b"packages ", counts.packages as u128)?;
+    push_line(&mut text, b"actions ", counts.actions)?;
+    push_line(&mut text, b"bound ", counts.bound as u128)?;
+    push_line(&mut text, b"width ", counts.width as u128)?;
+    push_line(&mut text, b"steps ", counts.steps as u128)?;
+    Ok(text)
+}
+
+/// Puts a line with a number at the end.
+fn push_line(text: &mut Text, word: &[u8], number: u128) -> Result<(), Memory>
+    ensures { OnOk result (text.new ≡ text.old ++ count_line word.now number) }
+{
+    let mut buffer = Buffer::new();
+    text.push_all(word)?;
+    text.push_all(buffer.format(number).as_bytes())?;
+    text.push_all(b"\n")
 }
 
 fn line_of(alloc: Global, first: &[u8], second: &[u8]) -> Result<Text, Memory>

@@ -1,11 +1,10 @@
 ghost use Rattle.std.specs.Prelude.{ℕ, ◌≡◌, ◌≢◌, ◌↔◌, ◌⊎◌, ◌<◌, ◌≤◌, ◌^◌, IfOk, IfErr, OnOk};
-ghost use Rattle.htn_base.specs.Limits.{most_slots};
 ghost use Rattle.outside_io.specs.Seen.{Seen};
 ghost use Rattle.outside_io.specs.Files.{GetHasFailed, PutHasFailed};
 ghost use Rattle.outside_io.specs.Sink.{WriteHasFailed};
 ghost use Rattle.command_words.specs.Names.{words_of};
 ghost use Rattle.command_words.specs.Words.{AreOfAForm, request_of};
-ghost use Rattle.htn_cli.specs.Ending.{Achieves, AskForNoFile, AskForSlots, Ends, IsAnswered, IsBeforePuts};
+ghost use Rattle.htn_cli.specs.Ending.{Achieves, AskForNoFile, AskForSlots, AskForTooMany, Ends, IsAnswered, IsBeforePuts};
 ghost use Rattle.htn_cli.specs.Ending.{IsDone, IsOfAnAnswer, IsRefused, IsRefusedFor, IsUntouched};
 ghost use Rattle.htn_cli.specs.Left.{Leaves};
 ghost use Rattle.htn_cli.specs.Answer.{gives};
@@ -13,17 +12,13 @@ ghost use Rattle.htn_cli.specs.Calling.{PassesInputs, PassesRequest, StopsInputs
 ghost use Rattle.htn_cli.specs.Made.{GivesOutput, output_of};
 ghost use Rattle.htn_cli.specs.Passing.{CallsAre, CallsBefore, PassesDone, PassesFinding, PassesRefused};
 ghost use Rattle.htn_cli.specs.Stops.{IsWellAsked, StopsOutput};
-ghost use Rattle.htn_cli.specs.promise.Headline.{HasHeadline};
-ghost use Rattle.htn_cli.specs.promise.Bound.{HasBound};
-ghost use Rattle.htn_cli.specs.promise.Plan.{HasPlan};
-ghost use Rattle.htn_cli.specs.promise.Tree.{HasTree};
-ghost use Rattle.htn_cli.specs.promise.Steps.{HasSteps};
-ghost use Rattle.htn_cli.specs.promise.Finding.{HasFinding};
+ghost use Rattle.htn_cli.specs.promise.Promise.{KeepsPromise};
 
 use crate::bounding::bounding;
 use crate::decode::decode;
 use crate::delivery::deliver;
 use crate::encode::encode;
+use crate::make::make;
 use crate::output::Output;
 use crate::refusal::{Limit, Refusal};
 use crate::status::Status;
@@ -32,7 +27,7 @@ use crate::translation::translation;
 use crate::validation::validation;
 use command_words::{Asked, asked};
 use decode_answers::values_are_decoded_alike;
-use encode_answers::values_are_encoded_alike;
+use encode_answers::{no_width_is_past_the_bound, values_are_encoded_alike};
 use outside_io::{Files, Sink};
 use std::alloc::Global;
 
@@ -59,19 +54,9 @@ pub fn run<F: Files, O: Sink, E: Sink>(
         (F.state files.old) (F.state files.new) (O.state out.old) (O.state out.new)
         result (E.state err.old) (E.state err.new) }
 
-    // What was written and told is true of the problem that the inputs spell.
-    ensures headline { result ≡ Status.Done → HasHeadline (words_of words.now)
-        (F.state files.old) (F.state files.new) (O.state out.old) (O.state out.new) }
-    ensures bound { result ≡ Status.Done → HasBound (words_of words.now)
-        (F.state files.old) (O.state out.old) (O.state out.new) }
-    ensures plan { result ≡ Status.Done → HasPlan (words_of words.now)
-        (F.state files.old) (O.state out.old) (O.state out.new) }
-    ensures tree { result ≡ Status.Done → HasTree (words_of words.now)
-        (F.state files.old) (O.state out.old) (O.state out.new) }
-    ensures steps { result ≡ Status.Done → HasSteps (words_of words.now)
-        (F.state files.old) (O.state out.old) (O.state out.new) }
-    ensures finding { result ≡ Status.Finding → HasFinding (words_of words.now)
-        (F.state files.old) (E.state err.old) (E.state err.new) }
+    // What was written and told is true of the problem that the inputs spell, or that was made.
+    ensures promise { KeepsPromise (words_of words.now) (F.state files.old) (F.state files.new)
+        (O.state out.old) (O.state out.new) (E.state err.old) (E.state err.new) result }
 
     // And it is true of the bytes that passed between the run and its files: the gets and the puts that
     // it made are these, in this order.
@@ -90,13 +75,13 @@ pub fn run<F: Files, O: Sink, E: Sink>(
         (F.state files.new).held ≡ (F.state files.old).held }
     ensures words { (result ≡ Status.Words) ↔ (AreOfAForm (words_of words.now) → ⊥) }
 
-    // A number of slots that is given and past a limit is refused before any file is read, and
-    // takes no memory.
+    // A number of slots that is given, or that a made problem takes, and past a limit is refused before
+    // any file is read, and takes no memory.
     ensures past_all { (n : ℕ) → AskForSlots (words_of words.now) n → 2 ^ 128 ≤ n → IsRefusedFor
         (F.state files.old) (F.state files.new) (O.state out.old) (O.state out.new)
         (Refusal.Limit Limit.Bound) result (E.state err.old) (E.state err.new) }
-    ensures past_slots { (n : ℕ) → AskForSlots (words_of words.now) n →
-        most_slots < n → n < 2 ^ 128 → IsRefusedFor
+    ensures past_slots { (n : ℕ) → AskForTooMany (words_of words.now) n →
+        n < 2 ^ 128 → IsRefusedFor
         (F.state files.old) (F.state files.new) (O.state out.old) (O.state out.new)
         (Refusal.Limit (Limit.Slots n)) result (E.state err.old) (E.state err.new) }
 
@@ -115,6 +100,7 @@ pub fn run<F: Files, O: Sink, E: Sink>(
     // laws, which do nothing
     values_are_decoded_alike();
     values_are_encoded_alike();
+    no_width_is_past_the_bound();
     match act(alloc, words, files, out) {
         Ok(()) => Status::Done,
         Err(refusal) => {
@@ -144,6 +130,7 @@ fn act<'a, F: Files, O: Sink>(
     // laws, which do nothing
     values_are_decoded_alike();
     values_are_encoded_alike();
+    no_width_is_past_the_bound();
     match asked(words) {
         None => Err(Refusal::Words),
         Some(asked) => perform(alloc, &asked, files, out),
@@ -196,5 +183,6 @@ fn output_for<'a, F: Files>(
         Asked::Decoding(asked) => decode(alloc, asked, files),
         Asked::Encoding(asked) => encode(alloc, asked, files),
         Asked::Validation(asked) => validation(alloc, asked, files),
+        Asked::Making(asked) => make(alloc, asked),
     }
 }

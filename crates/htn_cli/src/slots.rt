@@ -1,5 +1,6 @@
 ghost use Rattle.std.specs.Prelude.{ℕ, IfSome, IfOk, IfErr};
 ghost use Rattle.std.specs.Option.{option_copied};
+ghost use Rattle.htn_base.specs.Limits.{most_slots};
 ghost use Rattle.command_words.specs.Bounds.{ComesTo, IsNumeral};
 ghost use Rattle.plan_texts.specs.SoundlyCompiled.{IsSoundlyCompiled};
 ghost use Rattle.htn_cli.specs.Slots.{RefusesSlots};
@@ -53,7 +54,7 @@ fn computed_slots<'a>(alloc: Global, compiled: &Compiled) -> Result<u32, Refusal
 
 fn slots_in<'a>(bound: Bound) -> Result<u32, Refusal<'a>>
     ensures slots { IfOk result (λ slots. (n : ℕ) → ComesTo n bound → AreSlots n slots) }
-    ensures refused { IfErr result (λ refusal. (n : ℕ) → ComesTo n bound → RefusesSlots n refusal) }
+    ensures refused { IfErr result (λ refusal. (n : ℕ) → ComesTo n bound → RefusesSlots most_slots n refusal) }
 {
     match bound {
         Bound::Slots(slots) => Ok(slots),

@@ -4,7 +4,7 @@ use Rattle.plan_model.specs.declared.options.Style.TheVariants.{Flat}
 use Rattle.plan_model.specs.declared.options.Checks.TheVariants.{Leaf, AtOnce}
 use Rattle.command_words.specs.Names.{Word, Names, names_in, AreApart}
 use Rattle.command_words.specs.Forms.{AreOptions, translation_form, bound_form}
-use Rattle.command_words.specs.Words.{TranslationRequest, to_translate, to_bound, to_decode, to_encode, to_validate, AsksTranslation, AsksBound, AreOfAForm}
+use Rattle.command_words.specs.Words.{TranslationRequest, to_translate, to_bound, to_decode, to_encode, to_validate, to_make, AsksTranslation, AsksBound, AsksMake, AreOfAForm}
 
 abbrev files : Names
 files = record { domain = codes "d.hddl"; problem = codes "p.hddl"; printed_domain = codes "od.pddl"; printed_problem = codes "op.pddl" }
@@ -37,6 +37,15 @@ at_once = (
   record { files = refl; checks = refl },
 )
 
+-- a count with zeros before it
+nine_digits : AsksMake (codes "make" ∷ codes "000000819" ∷ codes "od" ∷ codes "op" ∷ []) record { numeral = codes "000000819"; printed_domain = codes "od"; printed_problem = codes "op" }
+nine_digits = (
+  codes "000000819" ∷ codes "od" ∷ codes "op" ∷ [],
+  [],
+  record { spelled = refl; counted = refl; allowed = tt },
+  record { words = refl; count = record { digits = refl; some = lit≤ tt; few = lit≤ tt; above_zero = lit≤ tt }; apart = λ e. grind (arith, e) },
+)
+
 -- an option without a value, one that is there twice, and one that the command does not have
 no_value : AreOptions translation_form.options (codes "--bound" ∷ []) → ⊥
 no_value are = are
@@ -50,6 +59,7 @@ same_name options (to_bound r, (n, o, of, says)) = let e = ap (λ z. get_or z 0 
 same_name options (to_decode r, (n, o, of, says)) = let e = ap (λ z. get_or z 0 []) of.spelled in absurd (grind (arith, e))
 same_name options (to_encode r, (n, o, of, says)) = let e = ap (λ z. get_or z 0 []) of.spelled in absurd (grind (arith, e))
 same_name options (to_validate r, (n, o, of, says)) = let e = ap (λ z. get_or z 0 []) of.spelled in absurd (grind (arith, e))
+same_name options (to_make r, (n, o, of, says)) = let e = ap (λ z. get_or z 0 []) of.spelled in absurd (grind (arith, e))
 same_name options (to_translate r, (n, o, of, says)) =
     let d = ap (λ z. get_or z 1 []) of.spelled in
     let od = ap (λ z. get_or z 3 []) of.spelled in
@@ -62,3 +72,4 @@ no_words (to_bound r, (n, o, of, says)) = let e = of.spelled in cc
 no_words (to_decode r, (n, o, of, says)) = let e = of.spelled in cc
 no_words (to_encode r, (n, o, of, says)) = let e = of.spelled in cc
 no_words (to_validate r, (n, o, of, says)) = let e = of.spelled in cc
+no_words (to_make r, (n, o, of, says)) = let e = of.spelled in cc

@@ -3,32 +3,25 @@
 use Rattle.std.specs.Prelude.{ℕ, ◌≡◌, ◌⊎◌, List, [], ◌∷◌, None}
 use Rattle.outside_io.specs.Files.{FilesState}
 use Rattle.outside_io.specs.Sink.{SinkState}
-use Rattle.plan_model.specs.declared.options.Checks.{Checks}
 use Rattle.plan_model.specs.declared.values.Pddl.{Pddl}
 use Rattle.plan_model.specs.declared.steps.GroundAction.{GroundAction}
 use Rattle.plan_model.specs.plan_meaning.FailingStep.{Fails}
-use Rattle.plan_model.specs.plan_meaning.Strata.{Edge}
 use Rattle.plan_texts.specs.PlanText.{SpellsPlan}
 use Rattle.plan_texts.specs.SpellsPddl.{SpellsPddl}
 use Rattle.plan_model.specs.declared.causes.FailWhy.{FailWhy}
 use Rattle.plan_proof.specs.TextPlans.{IsPlanOf}
-use Rattle.bound_calc.specs.stratifier.NamedCycle.{IsNamed}
-use Rattle.bound_calc.specs.stratifier.CycleWords.{cycle_line}
 use Rattle.command_words.specs.Names.{Word}
-use Rattle.command_words.specs.Words.{Request, to_translate, to_bound, to_decode, to_encode, to_validate, Asks}
+use Rattle.command_words.specs.Words.{Request, to_translate, to_bound, to_decode, to_encode, to_validate, to_make, Asks}
 use Rattle.htn_cli.specs.Told.{AreToldToRead}
 use Rattle.htn_cli.specs.Requests.{inputs_of}
 use Rattle.htn_cli.specs.Refusal.{line_of}
 use Rattle.htn_cli.specs.Sent.{Told}
 use Rattle.htn_cli.specs.declared.refusal.Finding.TheVariants as finding
 use Rattle.htn_cli.specs.declared.refusal.Refusal.TheVariants as refused
-use Rattle.htn_cli.specs.promise.Problems.{ForEach}
+use Rattle.htn_cli.specs.promise.Cycle.{TellsCycle}
 use Rattle.htn_cli.specs.promise.Tree.{TellsNoSolution}
 use Rattle.htn_cli.specs.promise.Steps.{TellsNoSteps}
-
--- a problem that is not tail-recursive: the line tells its bad cycle that is named
-abbrev pub TellsCycle : (checks : Checks) (d p : List ℕ) → SinkState → SinkState → Type 0
-TellsCycle checks d p err err' = ForEach d p checks (λ h c. (edges : List Edge) × IsNamed c edges × Told (cycle_line c edges) err err')
+use Rattle.htn_cli.specs.promise.Making.{TellsNothingMade}
 
 -- a list that was called none: it is the list that the third text spells, and no plan of the two others; the line tells the first step that
 -- fails in a value that these spell, and its first cause
@@ -51,6 +44,7 @@ TellsFinding (to_decode request) (d ∷ p ∷ plan ∷ []) err err' =
     ((request.numeral ≡ None) × TellsCycle request.checks d p err err') ⊎ TellsNoSolution request d p plan err err'
 TellsFinding (to_encode request) (d ∷ p ∷ hplan ∷ []) err err' = TellsNoSteps request d p hplan err err'
 TellsFinding (to_validate request) (pd ∷ pp ∷ plan ∷ []) err err' = TellsFailure pd pp plan err err'
+TellsFinding (to_make request) [] err err' = TellsNothingMade request err err'
 TellsFinding _ _ err err' = ⊥
 
 module _ (words : List Word) (files : FilesState) (err err' : SinkState) where

@@ -14,10 +14,8 @@ use Rattle.htn_cli.specs.Lines.{slots_line}
 use Rattle.htn_cli.specs.Sent.{TakesWhole}
 use Rattle.htn_cli.specs.promise.Problems.{ForEach}
 
--- the number of slots that was told, and what the two written texts are with so many
-pub record KeepsPlans (request : TranslationRequest) (d p od op : List ℕ) (out out' : SinkState) : Type 0 where
-  pub slots : ℕ
-  pub told : TakesWhole (slots_line slots) out out'
+-- what two printed texts are with so many slots
+pub record KeepPlans (request : TranslationRequest) (d p od op : List ℕ) (slots : ℕ) : Type 0 where
   pub given : IfSome request.numeral (λ numeral. slots ≡ number_of numeral)
   pub headline : Headline d p request.checks slots od op
   pub at_bound : HeadlineAtBound d p request.checks slots od op
@@ -25,6 +23,12 @@ pub record KeepsPlans (request : TranslationRequest) (d p od op : List ℕ) (out
   pub open_leaves : ForEach d p request.checks (λ h c. PendingAreOpenLeaves (network c))
   -- without a given number of slots no schedule of any solution is lost
   pub nothing_lost : request.numeral ≡ None → ForEach d p request.checks (λ h c. LosesNothing c slots od op)
+
+-- the number of slots that was told, and what the two written texts are with so many
+pub record KeepsPlans (request : TranslationRequest) (d p od op : List ℕ) (out out' : SinkState) : Type 0 where
+  pub slots : ℕ
+  pub told : TakesWhole (slots_line slots) out out'
+  pub keep : KeepPlans request d p od op slots
 
 module _ (words : List Word) (files files' : FilesState) where
   -- all that is told of the files of a translation

@@ -1,13 +1,14 @@
 -- What is promised of steps that were told for a hierarchical plan, or of a plan that was said to have none, for all that the files tell of
 -- the inputs.
 -- Source: this project's, after the translation of Alford et al., "Bound to Plan", ICAPS 2016.
-use Rattle.std.specs.Prelude.{ℕ, ◌≡◌, List, [], ◌∷◌, Option}
+use Rattle.std.specs.Prelude.{ℕ, ◌≡◌, ◌≤◌, List, [], ◌∷◌, Option, Some}
 use Rattle.outside_io.specs.Files.{FilesState}
 use Rattle.outside_io.specs.Sink.{SinkState}
 use Rattle.plan_model.specs.declared.options.Style.{Style}
 use Rattle.plan_model.specs.declared.steps.GroundAction.{GroundAction}
 use Rattle.plan_model.specs.declared.values.Compiled.{Compiled}
 use Rattle.plan_model.specs.declared.values.Pddl.{Pddl}
+use Rattle.plan_model.specs.plan_meaning.Bound.{IsBound}
 use Rattle.plan_texts.specs.PrintedTexts.{domain_text, problem_text}
 use Rattle.slot_encoding.specs.Printed.{IsPrinted}
 use Rattle.plan_proof.specs.TextPlans.{IsPlanOf}
@@ -33,6 +34,8 @@ use Rattle.htn_cli.specs.promise.Problems.{ForEach}
 pub record SaysWhy (given : Option ℕ) (plan : HPlan) (found : Finding) (c : Compiled) : Type 0 where
   pub sentence : IsFound c plan given found
   pub none : ((width : ℕ) → found ≡ finding.NeedsBound width → ⊥) → SomeSolutionShows c plan → ⊥
+  -- as many slots as the bound of the problem are never too few
+  pub enough : (bound slots width : ℕ) → IsBound c bound → given ≡ Some slots → bound ≤ slots → found ≡ finding.NeedsBound width → ⊥
 
 module _ (request : EncodeRequest) (d p hplan : List ℕ) where
   -- steps that were told: they spell the latest schedule of the plan that the third text spells with the lowest of the slots, whose number

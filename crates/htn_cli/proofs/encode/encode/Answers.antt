@@ -26,7 +26,7 @@ pub returns-in_err-given-clause-refused : goal.returns-in_err-given-clause-refus
 returns-in_err-given-clause-refused g c =
     let p = err_from_is_err_and c.from_residual.result c.from_residual.ensures.1 in
     let r = encode_of c.args.asked.now in
-    rw (p.1, p.2) (given_refused (to_encode r) (g.F.Files.state c.args.files.now) r.numeral refl _ c.in_err-given.ensures.refused)
+    rw (p.1, p.2) (given_refused (to_encode r) (g.F.Files.state c.args.files.now) r.numeral refl refl _ c.in_err-given.ensures.refused)
 
 pub returns-in_err-sources-clause-refused : goal.returns-in_err-sources-clause-refused
 returns-in_err-sources-clause-refused g c =

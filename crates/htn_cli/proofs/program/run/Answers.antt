@@ -1,8 +1,8 @@
 use Rattle.std.proofs.Common.{sym, ◌∙◌, inl, inr, ⊎_elim, arith}
 use Rattle.command_words.specs.Names.{words_of}
 use Rattle.htn_cli.proofs.Texts.{Told-nothing}
-use Rattle.htn_cli.proofs.Headlines.{headline_done, bound_done, plan_done, tree_done, steps_done, finding_refused}
-use Rattle.htn_cli.proofs.Endings.{never_done, answered_refused, answered_done, past_all, past_slots_too, past_not_done, stays_done, stays_refused, words_refused, refused_for, write_fault, read_fault, shows, calm}
+use Rattle.htn_cli.proofs.Headlines.{promise_done, promise_refused}
+use Rattle.htn_cli.proofs.Endings.{never_done, answered_refused, answered_done, past_all, past_slots_too, too_many, past_not_done, stays_done, stays_refused, words_refused, refused_for, write_fault, read_fault, shows, calm}
 use Rattle.htn_cli.proofs.CallsMade.{passes_finding}
 use Rattle.htn_cli.proofs.program.run.Goals as goal
 
@@ -14,28 +14,24 @@ returns-in-Ok-clause-answer g c = λ _ _ _. inr (answered_done _ _ _ _ _ _ _ c.i
 pub returns-in-Ok-clause-answered : goal.returns-in-Ok-clause-answered
 returns-in-Ok-clause-answered g c = λ _. answered_done _ _ _ _ _ _ _ c.in-Ok.ensures.done (Told-nothing _)
 
-pub returns-in-Ok-clause-headline : goal.returns-in-Ok-clause-headline
-returns-in-Ok-clause-headline g c = λ _. headline_done _ _ _ _ _ c.in-Ok.ensures.done
-
-pub returns-in-Ok-clause-bound : goal.returns-in-Ok-clause-bound
-returns-in-Ok-clause-bound g c = λ _. bound_done _ _ _ _ _ c.in-Ok.ensures.done
-
-pub returns-in-Ok-clause-plan : goal.returns-in-Ok-clause-plan
-returns-in-Ok-clause-plan g c = λ _. plan_done _ _ _ _ _ c.in-Ok.ensures.done
-
-pub returns-in-Ok-clause-tree : goal.returns-in-Ok-clause-tree
-returns-in-Ok-clause-tree g c = λ _. tree_done _ _ _ _ _ c.in-Ok.ensures.done c.values_are_decoded_alike.ensures
-
-pub returns-in-Ok-clause-steps : goal.returns-in-Ok-clause-steps
-returns-in-Ok-clause-steps g c = λ _. steps_done _ _ _ _ _ c.in-Ok.ensures.done c.values_are_decoded_alike.ensures c.values_are_encoded_alike.ensures
-
 pub returns-in-Ok-clause-past_all : goal.returns-in-Ok-clause-past_all
-returns-in-Ok-clause-past_all g c = λ n asks past. absurd (past_not_done _ _ _ _ _ n c.in-Ok.ensures.done asks (omega (arith, past)))
+returns-in-Ok-clause-past_all g c = λ n asks past. absurd (past_not_done _ _ _ _ _ n c.in-Ok.ensures.done (too_many (words_of c.args.words.now) (g.F.Files.state c.args.files.now) (g.F.Files.state c.act.new.files) (g.O.Sink.state c.args.out.now) (g.O.Sink.state c.act.new.out) n asks past))
 
 pub returns-in-Ok-clause-past_slots : goal.returns-in-Ok-clause-past_slots
-returns-in-Ok-clause-past_slots g c = λ n asks past few. absurd (past_not_done _ _ _ _ _ n c.in-Ok.ensures.done asks past)
+returns-in-Ok-clause-past_slots g c = λ n asks few. absurd (past_not_done _ _ _ _ _ n c.in-Ok.ensures.done asks)
+
+pub returns-in-Ok-clause-promise : goal.returns-in-Ok-clause-promise
+returns-in-Ok-clause-promise g c =
+    promise_done (record { decoded = c.values_are_decoded_alike.ensures; encoded = c.values_are_encoded_alike.ensures; within = c.no_width_is_past_the_bound.ensures })
+    _ _ _ _ _ _ c.in-Ok.ensures.done
 
 -- it was refused
+
+pub returns-in-Err-clause-promise : goal.returns-in-Err-clause-promise
+returns-in-Err-clause-promise g c =
+    promise_refused (record { decoded = c.values_are_decoded_alike.ensures; encoded = c.values_are_encoded_alike.ensures; within = c.no_width_is_past_the_bound.ensures })
+    (words_of c.args.words.now) (g.F.Files.state c.args.files.now) (g.F.Files.state c.act.new.files) (g.O.Sink.state c.args.out.now) (g.O.Sink.state c.act.new.out) _ _ _
+    c.in-Err.refusal c.status-status.ensures c.in-Err.ensures.refused c.tell.ensures.told
 
 pub returns-in-Err-clause-answer : goal.returns-in-Err-clause-answer
 returns-in-Err-clause-answer g c =
@@ -52,31 +48,12 @@ returns-in-Err-clause-answered g c =
 pub returns-in-Err-clause-refused : goal.returns-in-Err-clause-refused
 returns-in-Err-clause-refused g c = λ _. record { refusal = c.in-Err.refusal; status_is = c.status-status.ensures; left = c.in-Err.ensures.refused; told = c.tell.ensures.told }
 
-pub returns-in-Err-clause-headline : goal.returns-in-Err-clause-headline
-returns-in-Err-clause-headline g c = λ e. absurd (never_done c.in-Err.refusal (sym c.status-status.ensures ∙ e))
-
-pub returns-in-Err-clause-bound : goal.returns-in-Err-clause-bound
-returns-in-Err-clause-bound g c = λ e. absurd (never_done c.in-Err.refusal (sym c.status-status.ensures ∙ e))
-
-pub returns-in-Err-clause-plan : goal.returns-in-Err-clause-plan
-returns-in-Err-clause-plan g c = λ e. absurd (never_done c.in-Err.refusal (sym c.status-status.ensures ∙ e))
-
-pub returns-in-Err-clause-tree : goal.returns-in-Err-clause-tree
-returns-in-Err-clause-tree g c = λ e. absurd (never_done c.in-Err.refusal (sym c.status-status.ensures ∙ e))
-
-pub returns-in-Err-clause-steps : goal.returns-in-Err-clause-steps
-returns-in-Err-clause-steps g c = λ e. absurd (never_done c.in-Err.refusal (sym c.status-status.ensures ∙ e))
-
 pub returns-in-Err-clause-quiet : goal.returns-in-Err-clause-quiet
 returns-in-Err-clause-quiet g c = λ e. absurd (never_done c.in-Err.refusal (sym c.status-status.ensures ∙ e))
 
 pub returns-in-Err-clause-read_fault : goal.returns-in-Err-clause-read_fault
 returns-in-Err-clause-read_fault g c =
     λ e. read_fault (g.F.Files.state c.args.files.now) (g.F.Files.state c.act.new.files) (g.O.Sink.state c.args.out.now) (g.O.Sink.state c.act.new.out) (words_of c.args.words.now) c.in-Err.refusal c.in-Err.ensures.refused (sym c.status-status.ensures ∙ e)
-
-pub returns-in-Err-clause-finding : goal.returns-in-Err-clause-finding
-returns-in-Err-clause-finding g c =
-    λ e. finding_refused c.values_are_decoded_alike.ensures c.values_are_encoded_alike.ensures (words_of c.args.words.now) (g.F.Files.state c.args.files.now) (g.F.Files.state c.act.new.files) (g.O.Sink.state c.args.out.now) (g.O.Sink.state c.act.new.out) c.in-Err.refusal c.in-Err.ensures.refused (sym c.status-status.ensures ∙ e) _ _ c.tell.ensures.told
 
 pub returns-in-Err-clause-past_all : goal.returns-in-Err-clause-past_all
 returns-in-Err-clause-past_all g c =
@@ -86,8 +63,8 @@ returns-in-Err-clause-past_all g c =
 
 pub returns-in-Err-clause-past_slots : goal.returns-in-Err-clause-past_slots
 returns-in-Err-clause-past_slots g c =
-    λ n asks past few.
-    let x = past_slots_too (words_of c.args.words.now) (g.F.Files.state c.args.files.now) (g.F.Files.state c.act.new.files) (g.O.Sink.state c.args.out.now) (g.O.Sink.state c.act.new.out) n c.in-Err.refusal c.in-Err.ensures.refused asks past few in
+    λ n asks few.
+    let x = past_slots_too (words_of c.args.words.now) (g.F.Files.state c.args.files.now) (g.F.Files.state c.act.new.files) (g.O.Sink.state c.args.out.now) (g.O.Sink.state c.act.new.out) n c.in-Err.refusal c.in-Err.ensures.refused asks few in
     refused_for _ _ _ _ _ _ _ _ _ c.status-status.ensures x.0 x.1 c.tell.ensures.told
 
 pub returns-in-Err-clause-write_fault : goal.returns-in-Err-clause-write_fault
@@ -118,7 +95,8 @@ returns-in-Err-clause-inputs_stay g c =
 
 pub returns-in-Err-clause-found : goal.returns-in-Err-clause-found
 returns-in-Err-clause-found g c =
-    λ e. passes_finding (words_of c.args.words.now) (g.F.Files.passed c.args.files.now) (g.F.Files.passed c.act.new.files) c.values_are_decoded_alike.ensures c.values_are_encoded_alike.ensures c.in-Err.refusal c.in-Err.ensures.stopped (sym c.status-status.ensures ∙ e) _ _ c.tell.ensures.told
+    λ e. passes_finding (words_of c.args.words.now) (g.F.Files.passed c.args.files.now) (g.F.Files.passed c.act.new.files)
+    (record { decoded = c.values_are_decoded_alike.ensures; encoded = c.values_are_encoded_alike.ensures; within = c.no_width_is_past_the_bound.ensures }) c.in-Err.refusal c.in-Err.ensures.stopped (sym c.status-status.ensures ∙ e) _ _ c.tell.ensures.told
 
 pub returns-in-Err-clause-passed : goal.returns-in-Err-clause-passed
 returns-in-Err-clause-passed g c = λ e. absurd (never_done c.in-Err.refusal (sym c.status-status.ensures ∙ e))
