@@ -150,7 +150,7 @@ same_place nodes (j ∷ ks) (p ∷ ps) (suc n) k a e = same_place nodes ks ps n 
 same_place nodes [] (p ∷ ps) n k a e = absurd a
 same_place nodes (j ∷ ks) [] n k a e = absurd a
 
-as_many : (nodes : List Address) (ks : List ℕ) (ps : List Address) → AreAt nodes ks ps → length ks ≡ length ps
+pub as_many : (nodes : List Address) (ks : List ℕ) (ps : List Address) → AreAt nodes ks ps → length ks ≡ length ps
 as_many nodes [] [] a = refl
 as_many nodes (k ∷ ks) (p ∷ ps) a = ap suc (as_many nodes ks ps a.1)
 as_many nodes [] (p ∷ ps) a = absurd a

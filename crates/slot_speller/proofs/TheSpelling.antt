@@ -1,6 +1,5 @@
 -- The greatest of the lowest slots is the width, and the steps spell the tree with them.
 use Rattle.std.proofs.Common.{ℕ, ◌≡◌, ◌≤◌, List, map, Some, slice_get, slice_index, ap, sym, subst, ◌∙◌, arith}
-use Rattle.plan_model.specs.declared.steps.GroundAction.{GroundAction}
 use Rattle.plan_model.specs.declared.values.Compiled.{Compiled}
 use Rattle.plan_model.specs.task_networks.Lawful.{IsLawful}
 use Rattle.plan_model.specs.task_networks.Tree.{Tree, Address, IsAddress}
@@ -81,14 +80,13 @@ module _ (c : Compiled) (sound : IsSoundlyCompiled c) (run : Scheduled) (slots :
   pub is_width : (w : ℕ) → w ≡ slots.free.greatest → IsWidthOf c run w
   is_width w e tree order r = subst (λ z. IsWidth (network c) z tree order) (sym e) (width_is tree order r)
 
-  pub is_spelled : (w n : ℕ) (steps : List GroundAction) → w ≡ slots.free.greatest → w ≤ n
-      → steps ≡ map (step_at c run.tree slots.by_node.items) run.order
-      → IsSpelled c run n (record { width = w; steps = steps })
-  is_spelled w n steps e l f tree order r = record {
-    width = is_width w e tree order r;
+  pub is_spelled : (n : ℕ) → slots.free.greatest ≤ n
+      → IsSpelled c run n slots.free.greatest (map (step_at c run.tree slots.by_node.items) run.order)
+  is_spelled n l tree order r = record {
+    width_is = width_is tree order r;
     within = l;
     acts = (low tree order r).0;
     slot = (low tree order r).1;
-    lowest = with_more tree order r n (omega arith);
-    steps = f ∙ steps_spell tree order r;
+    lowest = with_more tree order r n l;
+    steps_are = steps_spell tree order r;
   }

@@ -1,14 +1,15 @@
-ghost use Rattle.std.specs.Prelude.{◌≡◌, ◌++◌, map, slice_get, IfOk, OnOk};
-ghost use Rattle.std.specs.Option.{option_copied};
+ghost use Rattle.std.specs.Prelude.{◌≡◌, ◌∷◌, map, slice_get};
 ghost use Rattle.htn_base.specs.Escapes.{escaped, slot_word};
 ghost use Rattle.plan_model.specs.plan_meaning.SpelledPlan as plans;
+ghost use Rattle.plan_text.specs.Printing.{args_text};
+ghost use Rattle.text_forms.specs.sheets.Sheets.{Wrote};
 ghost use Rattle.tree_core.specs.Runs.{label_in};
 ghost use Rattle.slot_speller.specs.Steps as spec;
 
-use htn_base::{List, Memory, Name, NameTable, Text};
+use htn_base::{Name, NameTable};
 use itoa::Buffer;
 use plan_model::Compiled;
-use std::alloc::Global;
+use text_forms::sheets::Sheet;
 use tree_core::{Label, Tree};
 
 /// The printed word of a name, from those of all names.
@@ -22,83 +23,85 @@ fn printed<'w>(c: &Compiled, words: &'w NameTable, name: Name) -> &'w [u8]
     }
 }
 
-/// The name of a method's action, which begins so.
-fn method_name(
-    alloc: Global,
-    c: &Compiled,
-    words: &NameTable,
-    beginning: &[u8],
-    method: u32,
-) -> Result<Text, Memory>
+/// The printed word of an action.
+fn action<'w>(c: &Compiled, words: &'w NameTable, action: u32) -> &'w [u8]
     requires { words.now ≡ map escaped c.now.hddl.names }
-    ensures { IfOk result (λ text. text ≡ beginning.now ++ plans.method_by c.now (slice_get c.now.methods method)) }
+    ensures { result.now ≡ plans.action_by c.now (slice_get c.now.hddl.actions action) }
 {
-    let name = match c.methods.get(method as usize) {
-        Some(plan) => printed(c, words, plan.schema.name),
+    match c.hddl.actions.get(action as usize) {
+        Some(action) => printed(c, words, action.name),
         None => &[],
-    };
-    let mut text = Text::new(alloc);
-    text.reserve(beginning.len().saturating_add(name.len()))?;
-    text.push_all(beginning)?;
-    text.push_all(name)?;
-    Ok(text)
+    }
 }
 
-/// The name of the action that processes what stands at the node.
-pub(crate) fn name(
-    alloc: Global,
+/// The printed word of a method.
+fn method<'w>(c: &Compiled, words: &'w NameTable, method: u32) -> &'w [u8]
+    requires { words.now ≡ map escaped c.now.hddl.names }
+    ensures { result.now ≡ plans.method_by c.now (slice_get c.now.methods method) }
+{
+    match c.methods.get(method as usize) {
+        Some(plan) => printed(c, words, plan.schema.name),
+        None => &[],
+    }
+}
+
+/// The printed word of an object.
+fn object<'w>(c: &Compiled, words: &'w NameTable, object: u32) -> &'w [u8]
+    requires { words.now ≡ map escaped c.now.hddl.names }
+    ensures { result.now ≡ plans.object_word c.now object }
+{
+    match c.hddl.objects.get(object as usize) {
+        Some(object) => printed(c, words, object.name),
+        None => &[],
+    }
+}
+
+/// Puts the name of the action that processes what stands at the node.
+pub(crate) fn put_name(
     c: &Compiled,
     words: &NameTable,
     tree: &Tree,
     node: u32,
-) -> Result<Text, Memory>
+    sheet: &mut Sheet<'_>,
+)
     requires { words.now ≡ map escaped c.now.hddl.names }
-    ensures { IfOk result (λ text. text ≡ spec.name_by c.now (label_in tree.now node)) }
+    ensures { Wrote (spec.name_by c.now (label_in tree.now node)) sheet.old sheet.new }
 {
     match tree.label(node) {
-        Some(Label::Primitive { action, args: _ }) => {
-            match c.hddl.actions.get(*action as usize) {
-                Some(action) => Text::from_slice(alloc, printed(c, words, action.name)),
-                None => Ok(Text::new(alloc)),
-            }
+        Some(
+            Label::Primitive {
+                action: number,
+                args: _,
+            },
+        ) => sheet.put(action(c, words, *number)),
+        Some(
+            Label::Check {
+                method: number,
+                args: _,
+            },
+        ) => {
+            sheet.put(b"htn_c_");
+            sheet.put(method(c, words, *number));
         }
-        Some(Label::Check { method, args: _ }) => {
-            method_name(alloc, c, words, b"htn_c_", *method)
-        }
-        Some(Label::Abstract { method, .. }) => {
-            if *method == 0 {
-                Text::from_slice(alloc, b"htn_start")
+        Some(Label::Abstract { method: number, .. }) => {
+            if *number == 0 {
+                sheet.put(b"htn_start");
             } else {
-                method_name(alloc, c, words, b"htn_m_", *method)
+                sheet.put(b"htn_m_");
+                sheet.put(method(c, words, *number));
             }
         }
-        None => Ok(Text::new(alloc)),
+        None => {}
     }
 }
 
-/// The word of a slot, in a text that has its room from the first.
-pub(crate) fn slot(alloc: Global, slot: u32) -> Result<Text, Memory>
-    ensures slot { IfOk result (λ text. text ≡ slot_word slot) }
+/// Puts the word of a slot, behind a space.
+pub(crate) fn put_slot(slot: u32, sheet: &mut Sheet<'_>)
+    ensures { Wrote (32 ∷ slot_word slot) sheet.old sheet.new }
 {
-    let mut buffer = Buffer::new();
-    let digits = buffer.format(slot).as_bytes();
-    let beginning: &[u8] = b"htn_s";
-    let mut text = Text::new(alloc);
-    text.reserve(beginning.len().saturating_add(digits.len()))?;
-    text.push_all(beginning)?;
-    text.push_all(digits)?;
-    Ok(text)
-}
-
-/// The printed word of an object.
-fn object(alloc: Global, c: &Compiled, words: &NameTable, object: u32) -> Result<Text, Memory>
-    requires { words.now ≡ map escaped c.now.hddl.names }
-    ensures { IfOk result (λ text. text ≡ plans.object_word c.now object) }
-{
-    match c.hddl.objects.get(object as usize) {
-        Some(object) => Text::from_slice(alloc, printed(c, words, object.name)),
-        None => Ok(Text::new(alloc)),
-    }
+    let mut digits = Buffer::new();
+    sheet.put(b" htn_s");
+    sheet.put(digits.format(slot).as_bytes());
 }
 
 /// The objects of what stands at the node.
@@ -113,19 +116,13 @@ pub(crate) fn objects<'t>(c: &Compiled, tree: &'t Tree, node: u32) -> &'t [u32]
     }
 }
 
-/// Puts the printed words of objects.
-pub(crate) fn put_objects(
-    alloc: Global,
-    c: &Compiled,
-    words: &NameTable,
-    objects: &[u32],
-    args: &mut List<Text>,
-) -> Result<(), Memory>
+/// Puts the printed words of objects, each behind a space.
+pub(crate) fn put_objects(c: &Compiled, words: &NameTable, objects: &[u32], sheet: &mut Sheet<'_>)
     requires { words.now ≡ map escaped c.now.hddl.names }
-    ensures { OnOk result (args.new ≡ args.old ++ map (plans.object_word c.now) objects.now) }
+    ensures { Wrote (args_text (map (plans.object_word c.now) objects.now)) sheet.old sheet.new }
 {
     for number in objects {
-        args.put(object(alloc, c, words, *number))?;
+        sheet.put(b" ");
+        sheet.put(object(c, words, *number));
     }
-    Ok(())
 }

@@ -16,12 +16,14 @@ use Rattle.plan_texts.specs.PlanText.{plan_text}
 use Rattle.hplan_text.specs.declared.values.HPlan.{HPlan}
 use Rattle.schedules.specs.ruled.FirstFreeLaws.{SpellsLowest}
 use Rattle.tree_core.specs.declared.growth.Scheduled.{Scheduled}
-use Rattle.slot_speller.specs.declared.spelled.Spelled.{Spelled}
 use Rattle.slot_speller.specs.Spelled as spelled
 use Rattle.placements.specs.Matching.{IsUnmatched}
 use Rattle.placements.specs.Placement.{IsPlaced, IsNotExecutable, MissesGoal, HasNoPlace}
+use Rattle.step_texts.specs.declared.count.StepCount.{StepCount}
+use Rattle.step_texts.specs.declared.count.StepCount.TheVariants as count
 use Rattle.step_texts.specs.declared.text.StepText.{StepText}
-use Rattle.step_texts.specs.declared.text.StepText.TheVariants.{Whole, TooLong, NoMatch, NotExecutable, GoalFalse, NoPlacement, NeedsBound, TooWide}
+use Rattle.step_texts.specs.declared.text.StepText.TheVariants.{Whole, TooLong, NoMatch, NotExecutable, GoalFalse, NoPlacement}
+use Rattle.step_texts.specs.declared.text.StepText.TheVariants.{NeedsBound, TooWide}
 
 -- the width in a comment, and then the steps
 abbrev pub width_line : ℕ → List ℕ
@@ -72,24 +74,41 @@ module _ (c : Compiled) (plan : HPlan) where
     IsStepText most (NeedsBound width) = HasWidth width × ((n : ℕ) × (given ≡ Some n) × (n < width))
     IsStepText most (TooWide width) = HasWidth width × (given ≡ None) × (most_slots < width)
 
+  -- the width of the latest schedule and how many steps spell it with as many slots; or the first sentence that says why none do
+  abbrev pub IsStepCount : StepCount → Type 0
+  IsStepCount (count.Counted width steps) = (list : List GroundAction) × IsSpelled width width list × (steps ≡ length list)
+  IsStepCount (count.NoMatch id) = IsUnmatched c plan id
+  IsStepCount (count.NotExecutable id) = IsNotExecutable c plan id
+  IsStepCount count.GoalFalse = MissesGoal c plan
+  IsStepCount count.NoPlacement = HasNoPlace c plan
+  IsStepCount (count.TooWide width) = HasWidth width × (most_slots < width)
+
 -- the text of spelled steps, if it is at most so long, or its length
-abbrev pub IsTextOfSteps : Spelled → ℕ → StepText → Type 0
-IsTextOfSteps s most (Whole text) = (text ≡ steps_text s.width s.steps) × (length text ≤ most)
-IsTextOfSteps s most (TooLong n) = (n ≡ capped (length (steps_text s.width s.steps))) × (most < n)
-IsTextOfSteps s most _ = ⊥
+abbrev pub IsTextOfSteps : ℕ → List GroundAction → ℕ → StepText → Type 0
+IsTextOfSteps width steps most (Whole text) = (text ≡ steps_text width steps) × (length text ≤ most)
+IsTextOfSteps width steps most (TooLong n) = (n ≡ capped (length (steps_text width steps))) × (most < n)
+IsTextOfSteps width steps most _ = ⊥
 
 -- the given number of slots, or else the most that are printed
 abbrev pub slots_tried : Option ℕ → ℕ
 slots_tried given = unwrap_or given most_slots
 
-module _ (c : Compiled) (run : Scheduled) (given : Option ℕ) where
-  abbrev pub IsSpelledText : ℕ → StepText → Type 0
-  IsSpelledText most text = (s : Spelled) × spelled.IsSpelled c run (slots_tried given) s × IsTextOfSteps s most text
+-- of each finished tree and order for which the run stands
+module _ (c : Compiled) (run : Scheduled) where
+  module _ (given : Option ℕ) where
+    abbrev pub IsSpelledText : ℕ → StepText → Type 0
+    IsSpelledText most text = (width : ℕ) × (steps : List GroundAction) × spelled.IsSpelled c run (slots_tried given) width steps
+        × IsTextOfSteps width steps most text
 
-  -- of each finished tree and order for which the run stands
-  abbrev pub IsRunText : ℕ → StepText → Type 0
-  IsRunText most (Whole text) = IsSpelledText most (Whole text)
-  IsRunText most (TooLong n) = IsSpelledText most (TooLong n)
-  IsRunText most (NeedsBound width) = spelled.IsWidthOf c run width × ((n : ℕ) × (given ≡ Some n) × (n < width))
-  IsRunText most (TooWide width) = spelled.IsWidthOf c run width × (given ≡ None) × (most_slots < width)
-  IsRunText most _ = ⊥
+    abbrev pub IsRunText : ℕ → StepText → Type 0
+    IsRunText most (Whole text) = IsSpelledText most (Whole text)
+    IsRunText most (TooLong n) = IsSpelledText most (TooLong n)
+    IsRunText most (NeedsBound width) = spelled.IsWidthOf c run width × ((n : ℕ) × (given ≡ Some n) × (n < width))
+    IsRunText most (TooWide width) = spelled.IsWidthOf c run width × (given ≡ None) × (most_slots < width)
+    IsRunText most _ = ⊥
+
+  abbrev pub IsRunCount : StepCount → Type 0
+  IsRunCount (count.Counted width steps) = (list : List GroundAction) × spelled.IsSpelled c run most_slots width list
+      × (steps ≡ length list)
+  IsRunCount (count.TooWide width) = spelled.IsWidthOf c run width × (most_slots < width)
+  IsRunCount _ = ⊥

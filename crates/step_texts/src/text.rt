@@ -4,6 +4,7 @@ ghost use Rattle.hplan_text.specs.Printable.{IsSoundHPlan, IsPrintableHPlan};
 ghost use Rattle.plan_texts.specs.SoundlyCompiled.{IsSoundlyCompiled};
 ghost use Rattle.plan_text.specs.Printing.{IsPutWithin};
 ghost use Rattle.text_forms.specs.sheets.Sheets.{Wrote};
+ghost use Rattle.slot_speller.specs.Spelled as spelled;
 ghost use Rattle.step_texts.specs.StepTexts as spec;
 
 use hplan_text::HPlan;
@@ -12,8 +13,7 @@ use htn_base::{Memory, Text};
 use itoa::Buffer;
 use plan_model::Compiled;
 use plan_placer::{PlaceError, place};
-use plan_text::put_plan;
-use slot_speller::{SpellError, Spelled, spell};
+use slot_speller::{SpellError, Spelling, spell};
 use std::alloc::Global;
 use text_forms::sheets::{Ended, Sheet};
 use tree_core::Scheduled;
@@ -77,7 +77,7 @@ fn text_of(
     ensures text { IfOk result (spec.IsRunText c.now run.now given most) }
 {
     match spell(alloc, c, run, given.unwrap_or(MOST_SLOTS as u32)) {
-        Ok(spelled) => printed(alloc, &spelled, most),
+        Ok(spelling) => printed(alloc, c, run, &spelling, most),
         Err(SpellError::NeedsBound { needed }) => match given {
             Some(_) => Ok(StepText::NeedsBound(needed)),
             None => Ok(StepText::TooWide(needed)),
@@ -86,25 +86,40 @@ fn text_of(
     }
 }
 
-/// The text of spelled steps.
-fn printed(alloc: Global, spelled: &Spelled, most: u64) -> Result<StepText, Memory>
-    ensures text { IfOk result (spec.IsTextOfSteps spelled.now most) }
+/// The text of a spelled run.
+fn printed(
+    alloc: Global,
+    c: &Compiled,
+    run: &Scheduled,
+    spelling: &Spelling,
+    most: u64,
+) -> Result<StepText, Memory>
+    ensures text { IfOk result
+        (spec.IsTextOfSteps (spelled.width_of spelling.now) (spelled.steps_of c.now run.now spelling.now) most) }
 {
     let mut text = Text::new(alloc);
-    match put(spelled, most, &mut text)? {
+    match put(alloc, c, run, spelling, most, &mut text)? {
         Ended::Whole => Ok(StepText::Whole(text)),
         Ended::TooLong(size) => Ok(StepText::TooLong(size)),
     }
 }
 
-/// Puts the text of spelled steps on an empty one, if it is no longer than the limit.
-fn put(spelled: &Spelled, most: u64, into: &mut Text) -> Result<Ended, Memory>
+/// Puts the text of a spelled run on an empty one, if it is no longer than the limit.
+fn put(
+    alloc: Global,
+    c: &Compiled,
+    run: &Scheduled,
+    spelling: &Spelling,
+    most: u64,
+    into: &mut Text,
+) -> Result<Ended, Memory>
     requires empty { into.old ≡ [] }
-    ensures ended { IfOk result (IsPutWithin (spec.steps_text spelled.now.width spelled.now.steps) most into.new) }
+    ensures ended { IfOk result (IsPutWithin
+        (spec.steps_text (spelled.width_of spelling.now) (spelled.steps_of c.now run.now spelling.now)) most into.new) }
 {
     let mut sheet = Sheet::new(into, most);
-    put_width(spelled.width, &mut sheet);
-    put_plan(spelled.steps.as_slice(), &mut sheet);
+    put_width(spelling.width(), &mut sheet);
+    spelling.put_steps(alloc, c, run, &mut sheet)?;
     let ended = sheet.answer();
     // A text has fewer than 2^64 bytes.
     let _ = into.len();

@@ -1,3 +1,4 @@
+use Rattle.std.proofs.Common.{arith}
 use Rattle.slot_speller.proofs.TheSpelling.{is_width, is_spelled}
 use Rattle.slot_speller.proofs.spelling.spell.Goals as goal
 
@@ -10,4 +11,4 @@ returns-then-width-slots-clause-refused c = (
 
 pub returns-clause-spelled : goal.returns-clause-spelled
 returns-clause-spelled c = is_spelled c.args.c.now c.requires.soundly c.args.run.now c.in_ok-assigned.assigned c.in_ok-assigned.ensures
-    c.width-width.result c.args.slots c.in_ok-steps.field-0 c.width-width.ensures c.if-width-slots.false c.in_ok-steps.ensures
+    c.args.slots (omega (arith, c.width-width.ensures, c.if-width-slots.false))

@@ -1,16 +1,20 @@
 use Rattle.std.proofs.Common.{ℕ, zero, suc, ◌≡◌, ◌+◌, List, [], ◌∷◌, ◌++◌, map, filter, slice_index, Bool, true, false, not, cond, ◌==◌}
-use Rattle.std.proofs.Common.{Result, Ok, Err, IfOk, ap, sym, ◌∙◌, eq-eqb, append_assoc, append-nil, arith}
-use Rattle.std.specs.Result.{IsOkAnd}
+use Rattle.std.proofs.Common.{ap, sym, subst, ◌∙◌, eq-eqb, append-nil, arith}
 use Rattle.std.proofs.lemmas.List.{map-append}
 use Rattle.std.proofs.lemmas.List.Elements.{filter-append}
 use Rattle.htn_base.specs.Escapes.{slot_word}
 use Rattle.plan_model.specs.task_networks.Spelling.{numbers}
+use Rattle.plan_text.specs.Printing.{args_text}
+use Rattle.text_forms.specs.sheets.Sheets.{Wrote}
+use Rattle.text_forms.specs.declared.sheets.sheet.Sheet.{Sheet}
+use Rattle.text_forms.proofs.sheets.Written.{wrote-as}
 use Rattle.tree_core.specs.Tables.{Row}
 use Rattle.tree_core.specs.Labels.{labels}
 use Rattle.slot_speller.specs.Children.{after_in, child_in}
 use Rattle.slot_speller.specs.Steps.{new_among}
+use Rattle.slot_speller.proofs.PutWords.{word-put}
 use Rattle.slot_speller.proofs.steps.put_new.Goals as goal
-use Rattle.slot_speller.proofs.steps.put_new.Goals.{then-number-heir+in_ok-put, else-number-heir}
+use Rattle.slot_speller.proofs.steps.put_new.Goals.{then-number-heir, else-number-heir}
 
 numbers-push : (i n : ℕ) → numbers i (suc n) ≡ numbers i n ++ (i + n) ∷ []
 numbers-push i zero = ap (λ x. x ∷ []) (let e : i ≡ i + 0 = omega arith in e)
@@ -41,37 +45,30 @@ module _ (f : ℕ → ℕ) (heir n : ℕ) where
       let t : (heir == n) ≡ false = grind arith in
       with_last ∙ ap (λ b. map f (filter passes (numbers 0 n)) ++ map f (cond (not b) (n ∷ []) [])) t
 
-module _ (rows : List (Row labels)) (nodes : List ℕ) (k heir n : ℕ) (start args : List (List ℕ))
-    (now : args ≡ start ++ map slot_word (new_among rows nodes k heir n)) where
+module _ (rows : List (Row labels)) (nodes : List ℕ) (k heir n : ℕ) {s t : Sheet}
+    (now : Wrote (args_text (map slot_word (new_among rows nodes k heir n))) s t) where
   -- one child more, the heir or another one
-  skipped : n ≡ heir → args ≡ start ++ map slot_word (new_among rows nodes k heir (n + 1))
-  skipped e = now ∙ ap (λ xs. start ++ map slot_word xs) (sym (is_last _ heir n e))
+  skipped : n ≡ heir → Wrote (args_text (map slot_word (new_among rows nodes k heir (n + 1)))) s t
+  skipped e = wrote-as (ap (λ xs. args_text (map slot_word xs)) (sym (is_last _ heir n e))) now
 
-  put : (n ≡ heir → ⊥) → (child : ℕ) → child ≡ child_in rows k n → (slot : ℕ) → slot ≡ slice_index nodes child → (new : List (List ℕ))
-      → {E : Type 0} (made : Result (List ℕ) E)
-      → IfOk made (λ word. word ≡ slot_word slot) → IsOkAnd made (λ word. new ≡ args ++ word ∷ [])
-      → new ≡ start ++ map slot_word (new_among rows nodes k heir (n + 1))
-  put d child c slot s new (Err x) w e = absurd e
-  put d child c slot s new (Ok word) w e =
+  put : (n ≡ heir → ⊥) → (child : ℕ) → child ≡ child_in rows k n → (slot : ℕ) → slot ≡ slice_index nodes child → {u : Sheet}
+      → Wrote (32 ∷ slot_word slot) t u → Wrote (args_text (map slot_word (new_among rows nodes k heir (n + 1)))) s u
+  put d child c slot e w =
       let f : ℕ → ℕ = λ i. slice_index nodes (child_in rows k i) in
-      let g : word ≡ slot_word (f n) = w ∙ ap slot_word (s ∙ ap (slice_index nodes) c) in
-      e ∙ ap (λ v. args ++ v ∷ []) g ∙ ap (λ v. v ++ slot_word (f n) ∷ []) now
-      ∙ append_assoc start (map slot_word (new_among rows nodes k heir n)) (slot_word (f n) ∷ [])
-      ∙ ap (λ v. start ++ v) (sym (map-append slot_word (new_among rows nodes k heir n) (f n ∷ [])))
-      ∙ ap (λ xs. start ++ map slot_word xs) (sym (is_not_last f heir n d))
+      let g : slot ≡ f n = e ∙ ap (slice_index nodes) c in
+      wrote-as (ap (λ xs. args_text (map slot_word xs)) (sym (is_not_last f heir n d)))
+      (word-put slot_word (new_among rows nodes k heir n) (f n) now (wrote-as (ap (λ z. 32 ∷ slot_word z) g) w))
 
 pub loop-number-preserved : goal.loop-number-preserved
 loop-number-preserved c = record {
   child = c.after-child.ensures ∙ ap (after_in rows) c.loop-number.invariant.child
       ∙ ap (child_in rows c.args.node) (let e : suc c.loop-number.number ≡ c.loop-number.number + 1 = omega arith in e);
   words = elim c.if-number-heir.branch [
-    | then-number-heir+in_ok-put w ↦ w.args-is
-        ∙ put rows nodes c.args.node c.args.heir c.loop-number.number c.args.args.now c.loop-number.args c.loop-number.invariant.words
-        w.if-number-heir.true c.loop-number.child c.loop-number.invariant.child w.at.result w.at.ensures w.put.new.self w.slot.result
-        w.slot.ensures.slot w.in_ok-put.ensures.put
-    | else-number-heir w ↦ w.args-is
-        ∙ skipped rows nodes c.args.node c.args.heir c.loop-number.number c.args.args.now c.loop-number.args c.loop-number.invariant.words
-        w.if-number-heir.false
+    | then-number-heir w ↦ subst (Wrote more c.args.sheet.now) (sym w.sheet-is)
+        (put rows nodes c.args.node heir c.loop-number.number c.loop-number.invariant.words
+        w.if-number-heir.true c.loop-number.child c.loop-number.invariant.child w.at.result w.at.ensures w.put_slot.ensures)
+    | else-number-heir w ↦ subst (Wrote more c.args.sheet.now) (sym w.sheet-is)
+        (skipped rows nodes c.args.node heir c.loop-number.number c.loop-number.invariant.words w.if-number-heir.false)
   ];
 }
   where
@@ -80,3 +77,9 @@ loop-number-preserved c = record {
 
     nodes : List ℕ
     nodes = c.args.slots.now.by_node.items
+
+    heir : ℕ
+    heir = c.in-Some-heir.heir
+
+    more : List ℕ
+    more = args_text (map slot_word (new_among rows nodes c.args.node heir (c.loop-number.number + 1)))
