@@ -1,5 +1,4 @@
-use Rattle.std.proofs.Common.{refl, sym, ap, ◌∙◌, subst, inr}
-use Rattle.command_words.specs.Words.{make_of}
+use Rattle.std.proofs.Common.{ap, ◌∙◌, subst, inr}
 use Rattle.step_texts.specs.StepTexts.{IsStepCount}
 use Rattle.htn_cli.specs.Lines.{summary}
 use Rattle.htn_cli.proofs.Results.{if_ok_both, if_err_too}
