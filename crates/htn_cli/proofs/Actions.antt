@@ -1,11 +1,11 @@
 -- How many actions are printed of a compiled problem: one for each method, one for each check, and one for each source action.
-use Rattle.std.proofs.Common.{ℕ, zero, suc, ◌≡◌, ◌+◌, ◌<◌, Bool, true, false, cond, List, [], ◌∷◌, ◌++◌, length, take, get_or, sum_by, refl, ap, sym, ◌∙◌, length-append, arith}
-use Rattle.std.proofs.lemmas.List.Sums.{sum_by-cons, sum_by_more}
+use Rattle.std.proofs.Common.{ℕ, suc, ◌≡◌, ◌+◌, Bool, true, false, cond, List, [], ◌∷◌, ◌++◌, length, sum_by, refl, ap, sym, ◌∙◌, length-append, arith}
+use Rattle.std.proofs.lemmas.List.Sums.{sum_by-cons}
 use Rattle.plan_model.specs.declared.options.Style.{Style}
 use Rattle.plan_model.specs.declared.schemas.ActionSchema.{ActionSchema}
 use Rattle.plan_model.specs.declared.schemas.MethodPlan.{MethodPlan}
 use Rattle.plan_model.specs.declared.values.Compiled.{Compiled}
-use Rattle.slot_encoding.specs.EncodedActions.{encoded_method, encoded_check, encoded_action}
+use Rattle.slot_encoding.specs.EncodedActions.{encoded_check}
 use Rattle.slot_encoding.specs.EncodedValue.{encoded_methods, encoded_checks, encoded_source, encoded_actions}
 use Rattle.htn_cli.specs.MakeStops.{HasActions}
 

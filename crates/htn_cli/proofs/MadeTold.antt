@@ -1,5 +1,5 @@
 -- What was made: what is true of one value of the made texts is true of each.
-use Rattle.std.proofs.Common.{ℕ, ◌≡◌, ◌≤◌, List, length, None, refl, sym, ap, ◌∙◌, subst, inl, inr, arith}
+use Rattle.std.proofs.Common.{ℕ, ◌≡◌, ◌≤◌, List, None, sym, ◌∙◌, subst, inl, inr, arith}
 use Rattle.outside_io.specs.Sink.{SinkState}
 use Rattle.plan_model.specs.declared.options.Checks.TheVariants.{Leaf}
 use Rattle.plan_model.specs.declared.steps.GroundAction.{GroundAction}
@@ -8,18 +8,15 @@ use Rattle.plan_model.specs.declared.values.Pddl.{Pddl}
 use Rattle.plan_model.specs.task_networks.Net.{Net}
 use Rattle.plan_model.specs.task_networks.Tree.{Tree, Address}
 use Rattle.plan_model.specs.task_networks.Spelling.{Act, Spells}
-use Rattle.plan_model.specs.plan_meaning.Bound.{IsBound}
 use Rattle.plan_model.specs.plan_meaning.Network.{network}
 use Rattle.plan_model.specs.plan_meaning.Solution.{top_work, IsSolution}
-use Rattle.plan_texts.specs.PrintedTexts.{domain_text, problem_text}
 use Rattle.plan_texts.specs.SpellsPddl.{SpellsPddl}
 use Rattle.plan_texts.proofs.PrintedSpells.{printed_spells}
 use Rattle.plan_encoder.specs.Calls.{ShowsUnderSomeIds}
 use Rattle.placements.proofs.PlacedPlans.{placed_are_solutions}
-use Rattle.step_texts.specs.StepTexts.{HasWidth, IsSpelled}
+use Rattle.step_texts.specs.StepTexts.{IsSpelled}
 use Rattle.made_transport.specs.Made.{made_domain}
 use Rattle.command_words.specs.Words.{TranslationRequest, MakeRequest}
-use Rattle.htn_cli.specs.Encoding.{IsFound}
 use Rattle.htn_cli.specs.Lines.{summary}
 use Rattle.htn_cli.specs.Making.{packages, problem_of, plan_of, translation_for, AreMade, RefusesMake}
 use Rattle.htn_cli.specs.Problem.{SpellProblem}

@@ -1,5 +1,5 @@
 -- What a request that makes a problem gives, or leaves that is refused, from what its steps do.
-use Rattle.std.proofs.Common.{ℕ, ◌≡◌, ◌+◌, ◌*◌, ◌<◌, ◌≤◌, ◌^◌, ◌⊎◌, ◌++◌, List, [], ◌∷◌, length, codes, decimal, Option, Some, None, refl, sym, ap, ◌∙◌, subst, inl, inr, lit≤, arith}
+use Rattle.std.proofs.Common.{ℕ, ◌≡◌, ◌*◌, ◌<◌, ◌≤◌, ◌^◌, ◌⊎◌, ◌++◌, List, [], length, codes, decimal, Option, Some, None, refl, sym, ap, ◌∙◌, subst, inl, inr, lit≤, arith}
 use Rattle.std.proofs.lemmas.List.{length-append}
 use Rattle.htn_base.specs.Limits.{longest_output, most_slots}
 use Rattle.outside_io.specs.Calls.{Passed}
@@ -10,17 +10,17 @@ use Rattle.plan_model.specs.declared.values.Compiled.{Compiled}
 use Rattle.plan_model.specs.plan_meaning.Bound.{IsBound}
 use Rattle.made_transport.specs.Made.{made_domain}
 use Rattle.command_words.specs.Words.{TranslationRequest, MakeRequest, to_make, number_of}
-use Rattle.htn_cli.specs.Answer.{Answer, refuses, gives}
+use Rattle.htn_cli.specs.Answer.{refuses, gives}
 use Rattle.htn_cli.specs.Answers.{Refuses, RefusesFault, past_slots, faulty, declined, given, IsAnswerFor}
 use Rattle.htn_cli.specs.Calling.{PassesInputs, StopsInputs}
 use Rattle.htn_cli.specs.Lines.{count_line, summary}
 use Rattle.htn_cli.specs.Made.{output_of, AreMadeWith, GivesOutput, NamesDiffer, manner_of}
-use Rattle.htn_cli.specs.Making.{IsCounted, packages, problem_of, plan_of, translation_for, IsAtBound, GivesMake}
-use Rattle.htn_cli.specs.MakeStops.{StopsAlone, HasActions, StopsCounting, IsSummedUp, StopsSummingUp, IsMadeAtBound, StopsAtBound}
+use Rattle.htn_cli.specs.Making.{IsCounted, problem_of, plan_of, translation_for, IsAtBound, GivesMake}
+use Rattle.htn_cli.specs.MakeStops.{StopsAlone, StopsCounting, IsMadeAtBound, StopsAtBound}
 use Rattle.htn_cli.specs.Problem.{SpellProblem}
 use Rattle.htn_cli.specs.Requests.{IsWithin}
 use Rattle.htn_cli.specs.Slots.{RefusesSlots}
-use Rattle.htn_cli.specs.Stops.{StopsTexts, StopsOutput, StopsBound, StopsComputed, StopsPrinted, IsComputed}
+use Rattle.htn_cli.specs.Stops.{StopsTexts, StopsOutput, StopsBound, StopsPrinted, IsComputed}
 use Rattle.htn_cli.specs.Texts.{texts_of}
 use Rattle.htn_cli.specs.declared.output.Output.{Output as Made}
 use Rattle.htn_cli.specs.declared.output.Written.{Written}

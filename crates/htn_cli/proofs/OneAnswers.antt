@@ -1,6 +1,6 @@
 -- Words have one answer at most.
 use Rattle.std.proofs.Common.{ℕ, ◌≡◌, ◌≤◌, ◌++◌, List, [], ◌∷◌, length, Option, Some, IfSome, codes, refl, sym, ◌∙◌, subst, inl, inr, arith}
-use Rattle.htn_base.specs.Limits.{longest_output, most_slots}
+use Rattle.htn_base.specs.Limits.{longest_output}
 use Rattle.outside_io.specs.Files.{FilesState}
 use Rattle.command_words.specs.Names.{Word}
 use Rattle.command_words.specs.Words.{TranslationRequest, BoundRequest, DecodeRequest, EncodeRequest, ValidationRequest, MakeRequest, Request, to_translate, to_bound, to_decode, to_encode, to_validate, to_make}

@@ -1,11 +1,10 @@
 -- What is made of so many packages, or refused, is one thing: the made texts are translated in one way, and the made plan comes to one
 -- number of steps or sentence, which is the same over each value that the texts spell.
-use Rattle.std.proofs.Common.{ℕ, ◌≡◌, ◌<◌, ◌≤◌, ◌⊎◌, inl, inr, List, length, Option, Some, None, refl, sym, ap, ◌∙◌, subst, arith}
+use Rattle.std.proofs.Common.{ℕ, ◌≡◌, ◌<◌, ◌≤◌, inl, inr, List, length, None, refl, sym, ap, ◌∙◌, subst, arith}
 use Rattle.std.proofs.lemmas.List.{length-map}
 use Rattle.htn_base.specs.Limits.{longest_output, most_slots}
 use Rattle.text_forms.specs.sheets.Sheets.{capped}
 use Rattle.plan_model.specs.declared.options.Checks.TheVariants.{Leaf}
-use Rattle.plan_model.specs.declared.steps.GroundAction.{GroundAction}
 use Rattle.plan_model.specs.declared.values.Compiled.{Compiled}
 use Rattle.plan_model.specs.declared.values.Pddl.{Pddl}
 use Rattle.plan_texts.specs.PrintedTexts.{domain_text, problem_text}
@@ -25,7 +24,6 @@ use Rattle.htn_cli.specs.Encoding.{IsFound}
 use Rattle.htn_cli.specs.Lines.{summary}
 use Rattle.htn_cli.specs.Making.{IsCounted, packages, problem_of, plan_of, translation_for, IsAtBound, GivesMake, RefusesMake}
 use Rattle.htn_cli.specs.OneAnswer.{TellTheSame}
-use Rattle.htn_cli.specs.Problem.{SpellProblem}
 use Rattle.htn_cli.specs.Texts.{Texts, AreTranslated, AreTooLong}
 use Rattle.htn_cli.specs.Translation.{RefusesTranslation, manner_with, texts_for}
 use Rattle.htn_cli.specs.declared.refusal.Finding.{Finding}
@@ -36,7 +34,7 @@ use Rattle.htn_cli.specs.declared.refusal.Refusal.TheVariants as refused
 use Rattle.htn_cli.proofs.MadePlans.{made_is_sound}
 use Rattle.htn_cli.proofs.OneEncoding.{answer_by, same_answer, step_text_there}
 use Rattle.htn_cli.proofs.OneSlots.{Follows, cycle, out, within, one_follows}
-use Rattle.htn_cli.proofs.OneTranslation.{Source, Prints, long, same_prints, long_not_written, texts_of_both}
+use Rattle.htn_cli.proofs.OneTranslation.{Source, long, same_prints, long_not_written, texts_of_both}
 
 -- two values that two texts spell have as many actions
 pub same_actions : (od op : List ℕ) (v w : Pddl) → SpellsPddl od op v → SpellsPddl od op w → length v.actions ≡ length w.actions

@@ -1,6 +1,6 @@
 -- How a request that makes a problem is refused, and what it gives.
 -- Source: this project's.
-use Rattle.std.specs.Prelude.{ℕ, ◌≡◌, ◌<◌, ◌⊎◌, List, [], Option, None, length}
+use Rattle.std.specs.Prelude.{ℕ, ◌≡◌, ◌<◌, ◌⊎◌, List, [], None, length}
 use Rattle.htn_base.specs.Limits.{most_slots}
 use Rattle.plan_model.specs.declared.options.Style.{Style}
 use Rattle.plan_model.specs.declared.values.Compiled.{Compiled}

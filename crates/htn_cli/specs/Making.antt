@@ -1,6 +1,6 @@
 -- A made problem, from the number of its packages: when it is refused, and what is given.
 -- Source: this project's; its texts and its plan as in made_transport.
-use Rattle.std.specs.Prelude.{ℕ, ◌≡◌, ◌<◌, ◌⊎◌, List, Option, None, codes, length}
+use Rattle.std.specs.Prelude.{ℕ, ◌≡◌, ◌<◌, ◌⊎◌, List, None, codes, length}
 use Rattle.htn_base.specs.Limits.{most_slots, longest_output}
 use Rattle.text_forms.specs.sheets.Sheets.{capped}
 use Rattle.plan_model.specs.declared.options.Style.TheVariants.{Adl}

@@ -1,7 +1,7 @@
 -- What a run promises, whole: all that is promised of what it wrote and told where it was done, and of what it found. Each is said of all
 -- problems that its texts spell, in both styles, with both checks of preconditions, and with each number of slots that is printed.
 -- Source: this project's, after the translation of Alford et al., "Bound to Plan", ICAPS 2016.
-use Rattle.std.specs.Prelude.{ℕ, ◌≡◌, List}
+use Rattle.std.specs.Prelude.{◌≡◌, List}
 use Rattle.outside_io.specs.Files.{FilesState}
 use Rattle.outside_io.specs.Sink.{SinkState}
 use Rattle.command_words.specs.Names.{Word}

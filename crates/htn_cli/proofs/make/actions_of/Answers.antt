@@ -1,4 +1,4 @@
-use Rattle.std.proofs.Common.{rules, ◌≡◌, ◌+◌, ◌≤◌, length, sum_by, take, take_all, ap, ◌∙◌, arith}
+use Rattle.std.proofs.Common.{rules, ◌≡◌, ◌+◌, ◌≤◌, length, sum_by, take_all, ap, ◌∙◌, arith}
 use Rattle.htn_cli.proofs.Actions.{check_count, counted_actions}
 use Rattle.htn_cli.proofs.make.actions_of.Goals as goal
 

@@ -1,4 +1,4 @@
-use Rattle.std.proofs.Common.{rules, ◌≡◌, ◌*◌, ◌<◌, ◌≤◌, ◌^◌, ap, arith}
+use Rattle.std.proofs.Common.{rules, ◌*◌, ◌<◌, ◌≤◌, ◌^◌, ap, arith}
 use Rattle.command_words.specs.Words.{make_of, number_of}
 use Rattle.htn_cli.proofs.Results.{if_ok_both, if_err_too}
 use Rattle.htn_cli.proofs.Makings.{packages_past, alone_gives, alone_stops}

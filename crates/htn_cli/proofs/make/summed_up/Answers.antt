@@ -1,6 +1,5 @@
-use Rattle.std.proofs.Common.{refl, sym, ap, ◌∙◌, subst, inr}
-use Rattle.command_words.specs.Words.{make_of}
-use Rattle.htn_cli.specs.StepStub.{IsStepCount}
+use Rattle.std.proofs.Common.{ap, ◌∙◌, subst, inr}
+use Rattle.step_texts.specs.StepTexts.{IsStepCount}
 use Rattle.htn_cli.specs.Lines.{summary}
 use Rattle.htn_cli.proofs.Results.{if_ok_both, if_err_too}
 use Rattle.htn_cli.proofs.make.summed_up.Goals as goal

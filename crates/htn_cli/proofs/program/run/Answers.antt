@@ -1,4 +1,4 @@
-use Rattle.std.proofs.Common.{sym, ◌∙◌, inl, inr, ⊎_elim, arith}
+use Rattle.std.proofs.Common.{sym, ◌∙◌, inl, inr, ⊎_elim}
 use Rattle.command_words.specs.Names.{words_of}
 use Rattle.htn_cli.proofs.Texts.{Told-nothing}
 use Rattle.htn_cli.proofs.Headlines.{promise_done, promise_refused}
