@@ -5,8 +5,8 @@
 # the same with a million); `decode` of 25,000 uses of a tail-recursive method, and of the deliveries of 200 packages, and `encode` of
 # the trees of both; and `make 200`. Wants ./htn, as examples/transport/run leaves it, and valgrind. A line each: the instructions.
 #
-# Counted, in the order of the cases, millions: 19.7, 97.8, 756.6, 408.0, 303.0, 285.5, 215.2, `decode` 317.5, 24.6, and `encode` 470.6 and
-# 41.1. `make 200` is not counted yet; at most 15 are wanted of it.
+# Counted, in the order of the cases, millions: 19.7, 97.7, 754.8, 407.6, 303.0, 285.5, 215.4, `decode` 314.4, 24.5, `encode` 389.5, 34.9, and
+# `make 200` 37.8, of which 21 are the plan's place. Before steps were put on the sheet straight from slots and words `encode` took 470.6, 41.1.
 set -euo pipefail
 top=$(cd "$(dirname "$0")/.." && pwd)
 work=$(mktemp -d)
