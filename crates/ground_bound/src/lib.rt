@@ -7,6 +7,7 @@
 //! `ground_tail_recursive_has_one_bound`). A search for what is reached goes by `forced_lists_grow` and `needed_atoms_are_reached`.
 #![tactic(auto)]
 
+mod count;
 mod found;
 mod ground_error;
 mod in_force;
