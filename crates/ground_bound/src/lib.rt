@@ -1,10 +1,14 @@
 //! The bound over what is reached: ground tasks, ground actions and ground methods in place of schemas.
 //!
-//! It stands on `htn_base`, on `plan_model` with its `task_networks` and `plan_meaning`, and on the laws of `slot_machine`. What is
-//! reached are least lists of ground methods and of atoms, and there is exactly one number of it (`reached_exactly`). The contract
-//! used above: no schedule of a solution has more pending at any time than the ground bound (`solutions_are_within_the_ground_bound`),
-//! and a compiled problem has either exactly one ground bound or exactly one named bad cycle (`ground_tail_recursive_or_bad_cycle`,
-//! `ground_tail_recursive_has_one_bound`). A search for what is reached goes by `forced_lists_grow` and `needed_atoms_are_reached`.
+//! Its laws stand on `plan_model`, with its `task_networks` and `plan_meaning`, and on those of `slot_machine`. What is reached are least
+//! lists of ground methods and of atoms, and there is exactly one number of it (`reached_exactly`). The contract for a layer above: no
+//! schedule of a solution has more pending at any time than the ground bound (`solutions_are_within_the_ground_bound`), and a compiled
+//! problem has either exactly one ground bound or exactly one named bad cycle (`ground_tail_recursive_or_bad_cycle`,
+//! `ground_tail_recursive_has_one_bound`).
+//!
+//! A search for what is reached goes by `searches_are_sound`. It is not whole yet, and nothing calls it: what stands of it goes once over
+//! all actions, puts a method that may be used to what is found, and counts. It stands on `ground_state` and `problem_index` for truth and
+//! effects, and on `indexmap` for rows that stand once.
 #![tactic(auto)]
 
 mod count;
