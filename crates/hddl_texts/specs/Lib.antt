@@ -1,0 +1,2 @@
+pub mod PrintedHddl
+pub mod Lengths
