@@ -1,1 +1,2 @@
 pub mod PrintedHddl
+pub mod Ids
