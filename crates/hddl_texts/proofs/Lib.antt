@@ -1,1 +1,6 @@
+pub mod KeptWords
+pub mod SubtaskWords
+pub mod Lists
+pub mod PrintedTypes
+pub mod SpelledNetworks
 pub mod examples
