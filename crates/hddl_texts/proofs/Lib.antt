@@ -4,4 +4,8 @@ pub mod Lists
 pub mod PrintedTypes
 pub mod SpelledNetworks
 pub mod NumberedSpells
+pub mod WithIds
+pub mod SameTexts
+pub mod PrintedIds
+pub mod PrintedHddlSpells
 pub mod examples
