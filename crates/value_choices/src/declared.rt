@@ -4,8 +4,8 @@ ghost use Rattle.plan_model.specs.Typing.{InType};
 ghost use Rattle.plan_model.specs.plan_meaning.Truth.{AreTyped};
 ghost use Rattle.plan_model.specs.plan_meaning.Network.{IsDeclared};
 ghost use Rattle.problem_index.specs.Kinds.{IsWorld};
-ghost use Rattle.method_fits.specs.Worlds.{IsWorldOf};
-ghost use Rattle.method_fits.specs.Subtasks as spec;
+ghost use Rattle.value_choices.specs.Worlds.{IsWorldOf};
+ghost use Rattle.value_choices.specs.DeclaredParams as spec;
 
 use plan_model::{Compiled, Head, Param};
 use problem_index::World;
@@ -47,7 +47,7 @@ fn are_typed(world: &World<'_>, params: &[Param], objects: &[u32]) -> bool
 }
 
 /// Whether the objects are of the types that are declared for what is of this kind.
-pub(crate) fn is_declared(world: &World<'_>, c: &Compiled, head: Head, objects: &[u32]) -> bool
+pub fn is_declared(world: &World<'_>, c: &Compiled, head: Head, objects: &[u32]) -> bool
     requires world { IsWorldOf c.now world.now }
     ensures { IsTrue result ↔ IsDeclared c.now (spec.work_of head objects.now) }
 {

@@ -2,8 +2,8 @@ use Rattle.std.proofs.Common.{ap, sym, subst, ◌∙◌}
 use Rattle.std.specs.Option.{option_copied}
 use Rattle.plan_model.specs.declared.networks.Head.{Head}
 use Rattle.plan_model.specs.plan_meaning.Network.{AreParamsOf}
-use Rattle.method_fits.specs.Subtasks.{work_of}
-use Rattle.method_fits.proofs.declared.params_of.Goals as goal
+use Rattle.value_choices.specs.DeclaredParams.{work_of}
+use Rattle.value_choices.proofs.declared.params_of.Goals as goal
 
 pub returns-in-Some-get : goal.returns-in-Some-get
 returns-in-Some-get c = λ objects.

@@ -14,7 +14,7 @@ use Rattle.plan_model.specs.declared.values.Compiled.{Compiled}
 use Rattle.plan_model.specs.Typing.{InType}
 use Rattle.plan_model.specs.plan_meaning.Truth.{AreTyped}
 use Rattle.plan_model.specs.plan_meaning.Network.{Work, action, check, task, InTypeOf, AreParamsOf, objects_of, IsDeclared}
-use Rattle.method_fits.specs.Subtasks.{work_of}
+use Rattle.value_choices.specs.DeclaredParams.{work_of}
 
 -- the first i objects are of the types of the first i parameters, if all are
 module _ (Is : ℕ → ℕ → Type 0) where

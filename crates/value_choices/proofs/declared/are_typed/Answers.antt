@@ -2,8 +2,8 @@ use Rattle.std.proofs.Common.{◌<◌, refl, sym, ◌∙◌, arith}
 use Rattle.std.proofs.lemmas.Bool.{true≢false}
 use Rattle.plan_model.specs.declared.terms.Param.{Param}
 use Rattle.plan_model.specs.Typing.{InType}
-use Rattle.method_fits.proofs.TypedObjects.{typed_length, typed_at, typed_more, typed_all}
-use Rattle.method_fits.proofs.declared.are_typed.Goals as goal
+use Rattle.value_choices.proofs.TypedObjects.{typed_length, typed_at, typed_more, typed_all}
+use Rattle.value_choices.proofs.declared.are_typed.Goals as goal
 
 abbrev none : Param
 none = record { name = record { number = 0 }; ty = 0 }

@@ -1,5 +1,5 @@
-use Rattle.method_fits.proofs.TypedObjects.{declared_as}
-use Rattle.method_fits.proofs.declared.is_declared.Goals as goal
+use Rattle.value_choices.proofs.TypedObjects.{declared_as}
+use Rattle.value_choices.proofs.declared.is_declared.Goals as goal
 
 pub returns-in-Some : goal.returns-in-Some
 returns-in-Some c =
