@@ -235,12 +235,6 @@ module _ (c : Compiled) (list : List (List ℕ)) (rows : List (Row labels)) wher
       (is_tree soundly (closed_by gs all) tree values s gs all)))
 
   -- the tree that has the values already
-  kept_is_chosen : IsSoundlyCompiled c → HasValues c list rows → IsChosenTree c rows list rows
+  pub kept_is_chosen : IsSoundlyCompiled c → HasValues c list rows → IsChosenTree c rows list rows
   kept_is_chosen soundly has tree values s =
       kept_is soundly (λ k w e. let (old, is, stays) = has k (waits w) e in not_open old w (ap Some (sym is))) tree values s has
-
-  -- and a copy of it does
-  pub copy_is_chosen : IsSoundlyCompiled c → HasValues c list rows → (made : Result (List (Row labels)) Memory)
-      → IfOk made (λ copy. copy ≡ rows) → IfOk made (IsChosenTree c rows list)
-  copy_is_chosen soundly has (Ok copy) e = subst (IsChosenTree c rows list) (sym e) (kept_is_chosen soundly has)
-  copy_is_chosen soundly has (Err m) e = tt

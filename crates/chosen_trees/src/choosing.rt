@@ -10,22 +10,24 @@ use plan_model::Compiled;
 use std::alloc::Global;
 use tree_core::{GrowError, Growth, Label, Tree, grow};
 
-/// The tree in which each method has the values at the place of the node that asks for them: its check, or else itself. `values`: by the
-/// addresses of nodes.
+/// The tree in which each method has the values at the place of the node that asks for them: its check, or else itself. It is the same
+/// tree where each has them already. `values`: by the addresses of nodes.
 pub fn with_values(
     alloc: Global,
     c: &Compiled,
-    tree: &Tree,
+    tree: Tree,
     values: &[List<u32>],
 ) -> Result<Tree, Memory>
     requires soundly { IsSoundlyCompiled c.now }
-    requires few { length tree.now ≤ most_steps }
-    ensures tree { IfOk result (spec.IsChosenTree c.now tree.now values.now) }
+    requires few { length tree ≤ most_steps }
+    ensures tree { IfOk result (spec.IsChosenTree c.now tree values.now) }
 {
-    if has_values(c, tree, values) {
-        return tree.copy(alloc);
+    if has_values(c, &tree, values) {
+        return Ok(tree);
     }
-    grown(alloc, c, tree, values)
+    let chosen = grown(alloc, c, &tree, values);
+    drop(tree);
+    chosen
 }
 
 /// Whether each method has these values already.

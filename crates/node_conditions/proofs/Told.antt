@@ -19,7 +19,7 @@ use Rattle.node_conditions.specs.declared.greatest.Stand.{Stand}
 use Rattle.node_conditions.specs.declared.demand.Demand.TheVariants.{Nothing, Never, Action, Method}
 use Rattle.node_conditions.specs.Demands.{IsFree, IsMet}
 use Rattle.node_conditions.specs.declared.choosing.Found.{Found}
-use Rattle.node_conditions.specs.Looks.{HoldsNever, IsFound, IsTheStand}
+use Rattle.node_conditions.specs.Looks.{HoldsNever, IsFound, IsStand, IsTheStand}
 use Rattle.node_conditions.specs.Standing.{told, RowStands}
 use Rattle.node_conditions.specs.Stands.{Somehow, Tells, AreFirstAt}
 
@@ -93,3 +93,7 @@ module _ (stands : ℕ → List ℕ → ℕ → Type 0) (c : Compiled) (world : 
       let n : HoldsNever At found.since gap = subst (λ (z : Option (List ℕ)). MatchOption z (HoldsNever At found.since gap) (IsFirst
       (At gap))) (sym e ∙ f) h in
       never_stands gap values (n.never gap n.since_is (omega arith))
+
+  pub stand_first : (most : ℕ) (found : Option Stand) → IsTheStand At most found → (stand : Stand) → found ≡ Some stand
+      → AreFirstAt stands k stand.gap stand.values
+  stand_first most found h stand e = (let s : IsStand At most stand = subst (IsTheStand At most) e h in first_stands stand.gap stand.values s.first)

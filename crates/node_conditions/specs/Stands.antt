@@ -1,6 +1,6 @@
 -- What a pass over a tree gives: the latest gap of each node, and the first values with which it stands there.
 -- Source: this project's.
-use Rattle.std.specs.Prelude.{ℕ, ◌≡◌, ◌<◌, ◌↔◌, List, [], length, slice_get, slice_index_or, Option, Some, MatchOption}
+use Rattle.std.specs.Prelude.{ℕ, ◌≡◌, ◌<◌, ◌↔◌, List, [], length, slice_get, slice_index_or, Option, Some, None, MatchOption}
 use Rattle.plan_model.specs.declared.values.Compiled.{Compiled}
 use Rattle.problem_index.specs.declared.world.World.{World}
 use Rattle.problem_index.specs.Kinds.{IsWorld}
@@ -10,6 +10,7 @@ use Rattle.state_history.specs.declared.history.History.{History}
 use Rattle.state_history.specs.Histories.{state_in}
 use Rattle.value_choices.specs.Choices.{IsFirst}
 use Rattle.gap_pass.specs.LatestGaps.{AreLatest, HasNone}
+use Rattle.node_conditions.specs.declared.greatest.Stand.{Stand}
 use Rattle.node_conditions.specs.declared.stands.Stands.{Stands}
 use Rattle.node_conditions.specs.Standing.{RowMayStand}
 
@@ -25,6 +26,10 @@ module _ (stands : ℕ → List ℕ → ℕ → Type 0) where
   -- of each of so many nodes in its gap
   abbrev pub AreFirst : ℕ → List ℕ → List (List ℕ) → Type 0
   AreFirst size gaps values = (k gap : ℕ) → k < size → slice_get gaps k ≡ Some gap → AreFirstAt k gap (slice_index_or values k [])
+
+  -- what is kept of nodes are the first values in their gaps
+  abbrev pub AreKept : List (Option Stand) → Type 0
+  AreKept found = (k : ℕ) (stand : Stand) → slice_index_or found k None ≡ Some stand → AreFirstAt k stand.gap stand.values
 
   pub record AreStands (c : Compiled) (rows : List (Row labels)) (actions : List ℕ) (found : Stands) : Type 0 where
     pub latest : AreLatest c rows actions Somehow found.gaps

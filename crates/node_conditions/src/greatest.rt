@@ -26,6 +26,16 @@ impl Drop for Stand {
     }
 }
 
+impl Stand {
+    /// The values.
+    pub(crate) fn into_values(self) -> List<u32>
+        ensures { result ≡ self.values }
+    {
+        let Stand { gap: _, values } = self;
+        values
+    }
+}
+
 /// The first values with which the demand is met in the gap.
 pub(crate) fn first_in(
     alloc: Global,

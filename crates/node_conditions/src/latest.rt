@@ -6,7 +6,7 @@ ghost use Rattle.state_history.specs.Histories.{state_in};
 ghost use Rattle.node_conditions.specs.Standing.{RowMayStand};
 ghost use Rattle.node_conditions.specs.Stands.{Tells, AreTheStands};
 
-use crate::conditions::{NodeConditions, Standing};
+use crate::conditions::{NodeConditions, Standing, none_found};
 use crate::stands::Stands;
 use gap_pass::latest_gaps;
 use htn_base::Memory;
@@ -54,7 +54,8 @@ fn run<K: Standing>(
     requires tells { Tells K.stands c.now world.now tree.now history }
     ensures { IfOk result (AreTheStands K.stands c.now tree.now actions.now) }
 {
-    let mut conditions = NodeConditions::<K>::new(c, *world, tree, history);
+    let found = none_found(alloc, tree.size() as usize)?;
+    let mut conditions = NodeConditions::<K>::new(c, *world, tree, history, found);
     let Some(gaps) = latest_gaps(alloc, c, later, tree, actions, &mut conditions)? else {
         return Ok(None);
     };

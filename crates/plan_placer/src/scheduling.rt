@@ -24,14 +24,14 @@ pub(crate) fn scheduled(
     alloc: Global,
     c: &Compiled,
     world: &World<'_>,
-    planted: &PlanTree,
+    planted: PlanTree,
     history: History,
 ) -> Result<Scheduled, PlaceError>
     requires soundly { IsSoundlyCompiled c.now }
     requires world { IsWorldOf c.now world.now }
-    requires few { length planted.now.tree ≤ most_steps }
-    ensures scheduled { IfOk result (spec.IsScheduled c.now planted.now history) }
-    ensures refused { IfErr result (spec.HasNoSchedule c.now planted.now history) }
+    requires few { length planted.tree ≤ most_steps }
+    ensures scheduled { IfOk result (spec.IsScheduled c.now planted history) }
+    ensures refused { IfErr result (spec.HasNoSchedule c.now planted history) }
 {
     let later = Later::all(alloc, c)?;
     let found = latest_stands(
@@ -55,22 +55,23 @@ fn with_first(
     alloc: Global,
     c: &Compiled,
     later: &[Later],
-    planted: &PlanTree,
+    planted: PlanTree,
     stands: &Stands,
 ) -> Result<Scheduled, Memory>
     requires soundly { IsSoundlyCompiled c.now }
     requires later { AreAllLater c.now later.now }
-    requires few { length planted.now.tree ≤ most_steps }
+    requires few { length planted.tree ≤ most_steps }
     ensures { IfOk result (λ run. (history : a_history)
-        → spec.AreFound c.now planted.now history stands.now → spec.IsScheduled c.now planted.now history run) }
+        → spec.AreFound c.now planted history stands.now → spec.IsScheduled c.now planted history run) }
 {
-    let tree = with_values(alloc, c, &planted.tree, stands.values.as_slice())?;
+    let (tree, actions) = planted.into_parts();
+    let tree = with_values(alloc, c, tree, stands.values.as_slice())?;
     let order = scheduled_order(
         alloc,
         c,
         later,
         &tree,
-        planted.actions.as_slice(),
+        actions.as_slice(),
         stands.gaps.as_slice(),
     )?;
     Ok(Scheduled { tree, order })

@@ -1,3 +1,5 @@
+ghost use Rattle.std.specs.Prelude.{◌≡◌};
+
 use htn_base::List;
 use tree_core::Tree;
 
@@ -13,5 +15,16 @@ impl Drop for PlanTree {
             tree: _,
             actions: _,
         } = self;
+    }
+}
+
+impl PlanTree {
+    /// The tree and the addresses.
+    pub fn into_parts(self) -> (Tree, List<u32>)
+        ensures tree { result.0 ≡ self.tree }
+        ensures actions { result.1 ≡ self.actions }
+    {
+        let PlanTree { tree, actions } = self;
+        (tree, actions)
     }
 }

@@ -9,6 +9,6 @@ returns g c =
     record {
       latest = subst (λ (z : Option (List ℕ)). AreLatestOrNone c.args.c.now c.args.tree.now c.args.actions.now
           (Somehow stands) z) c.in-Some.is c.in_ok-gaps.ensures.gaps;
-      first = subst (λ (n : ℕ). AreFirst stands n c.in-Some.gaps c.in_ok-values.values) c.size.ensures.size
-          (subst (λ (z : List ℕ). AreFirst stands c.size.result z c.in_ok-values.values) c.as_slice.ensures.items c.in_ok-values.ensures);
+      first = subst (λ (n : ℕ). AreFirst stands n c.in-Some.gaps c.in_ok-values.values) c.size-2.ensures.size
+          (subst (λ (z : List ℕ). AreFirst stands c.size-2.result z c.in_ok-values.values) c.as_slice.ensures.items c.in_ok-values.ensures);
     }

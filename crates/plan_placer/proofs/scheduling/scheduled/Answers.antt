@@ -20,7 +20,7 @@ latest_stands-requires-clause-later c =
 
 pub returns-in_default-clause-refused : goal.returns-in_default-clause-refused
 returns-in_default-clause-refused c plan r =
-    let made = c.args.planted.now in
+    let made = c.args.planted in
     let may = RowMayStand c.args.c.now made.tree (state_in c.args.history) in
     no_place c.args.c.now c.requires.soundly plan made c.args.history r
     (subst (λ (z : Option Stands). AreTheStands may c.args.c.now made.tree made.actions z) c.in_default.is
@@ -32,7 +32,7 @@ with_first-requires-clause-later c =
 
 pub returns-clause-scheduled : goal.returns-clause-scheduled
 returns-clause-scheduled c =
-    let made = c.args.planted.now in
+    let made = c.args.planted in
     let may = RowMayStand c.args.c.now made.tree (state_in c.args.history) in
     c.in_ok-run.ensures c.args.history
     (subst (λ (z : Option Stands). AreTheStands may c.args.c.now made.tree made.actions z) c.in-Some.is
