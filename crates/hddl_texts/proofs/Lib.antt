@@ -1,1 +1,4 @@
+mod Pieces
+mod Bundles
+mod Within
 pub mod examples

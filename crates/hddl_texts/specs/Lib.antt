@@ -1,2 +1,3 @@
 pub mod PrintedHddl
+pub mod Texts
 pub mod Lengths
