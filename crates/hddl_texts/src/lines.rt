@@ -57,7 +57,14 @@ impl Line for MethodSchema {
         batch.add(b" :parameters", sheet);
         add_variables(&p.pddl, params, &mut batch, sheet);
         batch.add(b" :task", sheet);
-        add_applied(&p.pddl, &scope, task, self.task_args.as_slice(), &mut batch, sheet);
+        add_applied(
+            &p.pddl,
+            &scope,
+            task,
+            self.task_args.as_slice(),
+            &mut batch,
+            sheet,
+        );
         batch.add(b" :precondition", sheet);
         add_formula(&p.pddl, &scope, &self.pre, &mut batch, sheet);
         add_network(p, self, &mut batch, sheet);
