@@ -8,4 +8,5 @@ pub mod WithIds
 pub mod SameTexts
 pub mod PrintedIds
 pub mod PrintedHddlSpells
+pub mod DomainNames
 pub mod examples
