@@ -1,5 +1,5 @@
 -- In what texts spell the constants stand first, and the domain names these alone.
-use Rattle.std.proofs.Common.{ℕ, zero, suc, ◌≡◌, ◌⊎◌, inl, inr, ◌<◌, not, cond, Bool, true, false, Option, Some, None, List, [], ◌∷◌, ◌++◌, map, filter, length, codes, refl, ap, sym, subst, ◌∙◌, arith}
+use Rattle.std.proofs.Common.{ℕ, suc, ◌≡◌, inl, inr, ◌<◌, not, cond, Bool, true, false, Option, Some, None, List, [], ◌∷◌, ◌++◌, map, filter, length, refl, ap, sym, subst, ◌∙◌, arith}
 use Rattle.std.specs.Option.{option_map}
 use Rattle.std.proofs.lemmas.Bool.{cond-true, cond-false}
 use Rattle.std.proofs.lemmas.Option.{same_Some}
@@ -13,8 +13,7 @@ use Rattle.plan_texts.specs.Types.{EachIs}
 use Rattle.plan_texts.specs.Formulas.{IsTerm, IsApplied, formula_step, IsFormula, effect_step, IsEffect}
 use Rattle.plan_texts.specs.Printable.{IsInForce, IsSoundAtom, sound_step, IsSound, sound_effect_step, IsSoundEffect}
 use Rattle.plan_texts.specs.Schemas.{IsObject, IsAction}
-use Rattle.plan_texts.specs.Sections.{only}
-use Rattle.plan_texts.specs.Networks.{IsConstraintBy, IsConstraint, IsCall, IsSubtaskBy, IsSubtask, IsMethod}
+use Rattle.plan_texts.specs.Networks.{IsConstraintBy, IsConstraint, IsSubtaskBy, IsSubtask, IsMethod}
 use Rattle.plan_texts.specs.SpellsHddl.{hddl_words, task_words, action_words, SpellsHddl}
 use Rattle.plan_texts.specs.SoundValue.{arities, scope_of, IsSoundHead, IsSoundMethod, IsSoundHddl}
 use Rattle.plan_texts.proofs.Effects.{effect_roll}
@@ -164,8 +163,7 @@ module _ (h : Hddl) (cs : List Object) where
   named-methods (m ∷ ms) (part p ps) e s =
       let z = scope_of h m.params in
       let a = e.0 in
-      let t = a.head in
-      (
+      let t = a.head in (
         record {
           params = s.0.params;
           task_args = named-terms z m.task_args t.1 t.5 s.0.task_args;
