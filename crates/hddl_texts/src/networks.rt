@@ -1,4 +1,5 @@
-ghost use Rattle.hddl_texts.specs.Texts.{network_text, subtasks_text, orderings_text, constraint_text, constraints_text};
+ghost use Rattle.hddl_texts.specs.Texts.{constraint_text, constraints_text};
+ghost use Rattle.hddl_texts.specs.Texts.{network_text, orderings_text, subtasks_text};
 ghost use Rattle.pddl_printer.specs.Batches.{Added};
 
 use crate::problem::PrintedProblem;
@@ -65,7 +66,8 @@ fn add_constraints(
     batch: &mut Batch,
     sheet: &mut Sheet<'_>,
 )
-    ensures { Added (constraints_text p.now scope.now constraints.now) batch.old batch.new sheet.old sheet.new }
+    ensures { Added (constraints_text p.now scope.now constraints.now)
+        batch.old batch.new sheet.old sheet.new }
 {
     for constraint in constraints {
         add_constraint(p, scope, *constraint, batch, sheet);

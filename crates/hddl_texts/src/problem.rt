@@ -6,7 +6,8 @@ use plan_model::{Formula, Hddl, MethodSchema, Pddl, TaskSchema};
 use std::alloc::Global;
 use std::mem;
 
-/// A problem as it is printed: what it says without its tasks and methods, which the printer of PDDL values puts, and these.
+/// A problem as it is printed: what it says without its tasks and methods, which the printer of PDDL values
+/// puts, and these.
 pub struct PrintedProblem {
     pub pddl: Pddl,
     pub tasks: List<TaskSchema>,

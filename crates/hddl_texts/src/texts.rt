@@ -30,12 +30,12 @@ impl Drop for Texts {
 pub enum Printed {
     /// Both texts.
     Whole(Texts),
-    /// The length in bytes of the first text that is longer than the limit; past 2^64 - 1 it counts as 2^64 - 1.
+    /// The length in bytes of the first text that is longer than the limit; past 2^64 - 1 it counts as that.
     TooLong(u64),
 }
 
-/// The two texts of a problem, if neither is longer than the limit: what is printed is counted, so a text past the limit is not kept,
-/// and its length is known without it.
+/// The two texts of a problem, if neither is longer than the limit: what is printed is counted, so a text past
+/// the limit is not kept, and its length is known without it.
 pub fn hddl_texts(alloc: Global, h: Hddl, limit: u64) -> Result<Printed, Memory>
     ensures printed { IfOk result (ArePrintedWithin h limit) }
 {
