@@ -8,4 +8,8 @@ pub mod WithIds
 pub mod SameTexts
 pub mod PrintedIds
 pub mod PrintedHddlSpells
+pub mod DomainNames
+mod Pieces
+mod Bundles
+mod Within
 pub mod examples

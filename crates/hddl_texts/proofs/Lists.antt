@@ -3,7 +3,7 @@ use Rattle.std.proofs.Common.{ℕ, zero, suc, ◌≡◌, ◌+◌, ◌<◌, inl, 
 use Rattle.std.specs.Option.{option_map}
 use Rattle.std.proofs.lemmas.Bool.{cond-true, cond-false}
 use Rattle.htn_base.specs.Different.{AreDifferent}
-use Rattle.text_forms.specs.Lists.{Part, Parts, nothing, part}
+use Rattle.text_forms.specs.Lists.{Part, nothing, part}
 use Rattle.text_forms.specs.Words.{Word, word_at, first_place}
 use Rattle.text_forms.specs.Printing.{ArePrintableParts}
 use Rattle.plan_texts.specs.Types.{Has, EachIs}

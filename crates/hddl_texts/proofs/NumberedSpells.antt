@@ -1,14 +1,14 @@
 -- The printed texts of a sound value whose subtasks have the printed ids spell it.
-use Rattle.std.proofs.Common.{ℕ, ◌≡◌, ◌+◌, ◌<◌, ◌≤◌, ◌^◌, not, Bool, true, false, List, [], ◌∷◌, ◌++◌, map, length, codes, refl, ap, sym, subst, ◌∙◌, arith}
+use Rattle.std.proofs.Common.{◌≡◌, ◌<◌, ◌≤◌, ◌^◌, not, Bool, true, false, List, [], ◌∷◌, ◌++◌, map, length, codes, refl, ap, sym, subst, ◌∙◌, arith}
 use Rattle.std.proofs.lemmas.Bool.{cond-false, and_from, or_left}
 use Rattle.std.proofs.lemmas.List.{map-append}
 use Rattle.htn_base.specs.Different.{AreDifferent}
 use Rattle.htn_base.proofs.DifferentLemmas.{different-left}
-use Rattle.text_forms.specs.Lists.{Part, Parts, name, group, nothing, part}
+use Rattle.text_forms.specs.Lists.{Part, part}
 use Rattle.text_forms.specs.Words.{Word, word_at}
 use Rattle.text_forms.specs.Printing.{IsPrintablePart, ArePrintableParts}
 use Rattle.text_forms.proofs.Printed.{symbols-page, clean-page}
-use Rattle.plan_texts.specs.Declared.{Declared, named, variable, words_with}
+use Rattle.plan_texts.specs.Declared.{Declared, named, words_with}
 use Rattle.plan_texts.specs.TypedLists.{Each, EachTyped}
 use Rattle.plan_texts.specs.Types.{EachIs}
 use Rattle.plan_texts.specs.Sections.{are_sections, only, all_but, are_values}
@@ -31,7 +31,6 @@ use Rattle.plan_model.specs.declared.terms.Term.TheVariants.{Obj}
 use Rattle.plan_model.specs.declared.terms.GroundAtom.{GroundAtom}
 use Rattle.plan_model.specs.declared.types.Object.{Object}
 use Rattle.plan_model.specs.declared.networks.Head.TheVariants.{Task}
-use Rattle.plan_model.specs.declared.networks.Child.{Child}
 use Rattle.plan_model.specs.declared.networks.Constraint.{Constraint}
 use Rattle.plan_model.specs.declared.schemas.Predicate.{Predicate}
 use Rattle.plan_model.specs.declared.schemas.TaskSchema.{TaskSchema}
@@ -172,8 +171,7 @@ module _ (g : Hddl) (sound : IsSoundHddl g) where
         → Each (IsTask w) ts (all_parts (map (task_part g) ts)) × ArePrintableParts (all_parts (map (task_part g) ts))
     tasks-spelled [] e f = (tt, tt)
     tasks-spelled (t ∷ ts) e f =
-        let r = tasks-spelled ts e.1 f.1 in let p = params-spelled g w constants-kept has t.params f.0.0 in
-        (
+        let r = tasks-spelled ts e.1 f.1 in let p = params-spelled g w constants-kept has t.params f.0.0 in (
           (record { entries = _; is = refl; named = e.0.1; form = refl; params = (params_parts v t.params, refl, p.0); no_pre = refl; no_eff = refl }, r.0),
           ((refl, (plain-token (named g.names t.name) e.0, (refl, (p.1, tt)))), r.1),
         )
@@ -187,8 +185,7 @@ module _ (g : Hddl) (sound : IsSoundHddl g) where
         let p = params-spelled g w constants-kept has a.params f.0.0 in
         let s = plain-scope w (arities g) has a.params f.0.0 in
         let q = condition-spelled g w constants-kept has a.pre (scope_of g a.params) s k.0 in
-        let r = change-spelled g w constants-kept has a.eff (scope_of g a.params) s h.0 in
-        (
+        let r = change-spelled g w constants-kept has a.eff (scope_of g a.params) s h.0 in (
           (record { entries = _; is = refl; named = e.0.1; form = refl; params = (params_parts v a.params, refl, p.0); pre = q.0; eff = r.0 }, i.0),
           ((refl, (plain-token (named g.names a.name) e.0, (refl, (p.1, (refl, (q.1, (refl, (r.1, tt)))))))), i.1),
         )
@@ -200,8 +197,7 @@ module _ (g : Hddl) (sound : IsSoundHddl g) where
         let c = plain-scope w (arities g) has m.params s.params.0 in
         let t = task-spelled g w constants-kept has sound (scope_of g m.params) m.task m.task_args c h s.task_args in
         let f = condition-spelled g w constants-kept has m.pre (scope_of g m.params) c s.pre in
-        let k = network-spelled w constants-kept has m c s.children s.constraints n.pairs n.few n.ids in
-        (
+        let k = network-spelled w constants-kept has m c s.children s.constraints n.pairs n.few n.ids in (
           record {
             entries = _;
             is = refl;
@@ -229,8 +225,8 @@ module _ (g : Hddl) (sound : IsSoundHddl g) where
           let few = λ (x : Object). x.ty < length g.types.names in
           let cs = objects-spelled (constants_of g) true (constants_of g) has.objects (each-filter few (λ (x : Object). x.constant) g.objects sound.objects) (filter-holds (λ (x : Object). x.constant) g.objects) in
           let os = objects-spelled g.objects false (others_of g) (each-right IsPlain (map object_word (constants_of g)) (map object_word (others_of g)) (subst (EachIs IsPlain) split sound.words.objects))
-              (each-filter few (λ (x : Object). not x.constant) g.objects sound.objects)
-              (each-more (λ (x : Object). not x.constant ≡ true) (λ (x : Object). x.constant ≡ false) (others_of g) (λ x e. not-true x.constant e) (filter-holds (λ (x : Object). not x.constant) g.objects)) in
+          (each-filter few (λ (x : Object). not x.constant) g.objects sound.objects)
+          (each-more (λ (x : Object). not x.constant ≡ true) (λ (x : Object). x.constant ≡ false) (others_of g) (λ x e. not-true x.constant e) (filter-holds (λ (x : Object). not x.constant) g.objects)) in
           let ds = predicates-spelled g.predicates sound.words.predicates sound.predicates in
           let ts = tasks-spelled g.tasks (each-left IsPlain (task_words g) (action_words g) sound.calls_named) sound.task_params in
           let as' = actions-spelled g.actions (each-right IsPlain (task_words g) (action_words g) sound.calls_named) sound.action_params apart.pre apart.eff in
@@ -240,8 +236,7 @@ module _ (g : Hddl) (sound : IsSoundHddl g) where
           let p = params-spelled g v all-kept sound.words g.top.params sound.top.params.0 in
           let c = plain-scope v (arities g) sound.words g.top.params sound.top.params.0 in
           let k = network-spelled v all-kept sound.words g.top c sound.top.children sound.top.constraints numbered.0.pairs numbered.0.few numbered.0.ids in
-          let long : length (task_words g) ≡ length g.tasks = length-map _ g.tasks in
-          (
+          let long : length (task_words g) ≡ length g.tasks = length-map _ g.tasks in (
             record {
               constants = constants_of g;
               others = others_of g;

@@ -1,5 +1,5 @@
 -- With the printed ids each network of a sound problem is sound and has them, and what has no cycle still has none.
-use Rattle.std.proofs.Common.{ℕ, suc, ◌≡◌, ◌+◌, ◌<◌, ◌≤◌, ◌^◌, max, List, [], ◌∷◌, map, length, refl, ap, sym, subst, ◌∙◌, le_trans, Contains, arith}
+use Rattle.std.proofs.Common.{ℕ, suc, ◌≡◌, ◌+◌, ◌<◌, ◌≤◌, ◌^◌, max, List, [], ◌∷◌, map, length, refl, ap, sym, subst, ◌∙◌, le_trans, arith}
 use Rattle.std.specs.List.{filter_map}
 use Rattle.std.proofs.Math.Nat.{le-max_left, le-max_right}
 use Rattle.htn_base.specs.Different.{AreDifferent}

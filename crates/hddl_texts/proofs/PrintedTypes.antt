@@ -1,11 +1,11 @@
 -- What is printed for the types of a sound value spells them. A PDDL value with these types and no more has the same list.
 use Rattle.std.proofs.Common.{◌≡◌, ◌<◌, List, [], ◌∷◌, map, length, codes, refl, ap, sym, subst, ◌∙◌, arith}
-use Rattle.text_forms.specs.Lists.{Part, Parts, name, group, nothing, part, written}
+use Rattle.text_forms.specs.Lists.{Part, Parts, name, group, nothing, part}
 use Rattle.text_forms.specs.Words.{Word, word_at}
 use Rattle.text_forms.specs.Printing.{definition, ArePrintableParts}
 use Rattle.text_forms.proofs.OneNesting.{one_part}
 use Rattle.text_forms.proofs.Printed.{symbols-page}
-use Rattle.plan_texts.specs.Declared.{named, type_words}
+use Rattle.plan_texts.specs.Declared.{named}
 use Rattle.plan_texts.specs.Types.{EachIs, AreTypes}
 use Rattle.plan_texts.specs.Sections.{section, parts_in}
 use Rattle.plan_texts.specs.SpellsHddl.{hddl_types, hddl_words}

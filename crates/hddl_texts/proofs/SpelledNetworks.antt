@@ -1,24 +1,23 @@
 -- What is printed for terms, formulas and networks spells them, also where fewer objects may be named than the value has.
-use Rattle.std.proofs.Common.{ℕ, zero, suc, ◌≡◌, inl, ◌+◌, ◌<◌, ◌≤◌, ◌^◌, Bool, true, false, Option, Some, None, List, [], ◌∷◌, ◌++◌, map, length, drop, codes, refl, ap, sym, subst, ◌∙◌, arith}
-use Rattle.std.specs.Option.{option_map}
+use Rattle.std.proofs.Common.{ℕ, suc, ◌≡◌, inl, ◌+◌, ◌<◌, ◌≤◌, ◌^◌, Bool, true, false, Option, Some, None, List, [], ◌∷◌, map, length, drop, refl, ap, sym, subst, ◌∙◌, arith}
 use Rattle.std.proofs.lemmas.Option.{slice_get_within}
 use Rattle.htn_base.specs.declared.name.Name.{Name}
-use Rattle.text_forms.specs.Lists.{Part, Parts, name, group, nothing, part}
+use Rattle.text_forms.specs.Lists.{Parts, name, group, nothing, part}
 use Rattle.text_forms.specs.Words.{Word, is_name, word_at, first_place}
 use Rattle.text_forms.specs.Printing.{headed, IsPrintablePart, ArePrintableParts}
-use Rattle.plan_texts.specs.Declared.{Declared, named, words_with, variable}
+use Rattle.plan_texts.specs.Declared.{Declared}
 use Rattle.plan_texts.specs.TypedLists.{Each, EachTyped}
 use Rattle.plan_texts.specs.Types.{EachIs}
-use Rattle.plan_texts.specs.Formulas.{IsTerm, IsApplied, IsParam, IsFormula, IsEffect}
+use Rattle.plan_texts.specs.Formulas.{IsTerm, IsParam, IsFormula, IsEffect}
 use Rattle.plan_texts.specs.Networks.{head_of, IsOrdered, id_word, ids_by_place, IsEquation, IsConstraintBy, IsConstraint, IsCall, IsSubtaskBy, IsSubtask, IsHeadOf}
 use Rattle.plan_texts.specs.SpellsHddl.{hddl_words, task_words, action_words}
-use Rattle.plan_texts.specs.Printed.{all_parts, term_part, applied_part, params_parts, formula_part, effect_part}
-use Rattle.plan_texts.specs.Printable.{IsPlain, IsPlainVariable, IsInForce, IsSoundAtom, IsSoundParam, IsSound, IsSoundEffect, HasWords}
-use Rattle.plan_texts.specs.SoundValue.{arities, scope_of, IsSoundHead, IsSoundChild, IsSoundConstraint, IsSoundHddl}
+use Rattle.plan_texts.specs.Printed.{all_parts, term_part, params_parts, formula_part, effect_part}
+use Rattle.plan_texts.specs.Printable.{IsPlain, IsPlainVariable, IsInForce, IsSoundParam, IsSound, IsSoundEffect, HasWords}
+use Rattle.plan_texts.specs.SoundValue.{arities, IsSoundHead, IsSoundHddl}
 use Rattle.plan_texts.specs.SoundProblem.{NamesSubtasks}
 use Rattle.plan_texts.proofs.Members.{has-at, length-map}
 use Rattle.plan_texts.proofs.Places.{each-at, first-different, plain-token}
-use Rattle.plan_texts.proofs.Spelled.{spelled-term, spelled-terms, spelled-atom, spelled-params, plain-scope, formula-spelled}
+use Rattle.plan_texts.proofs.Spelled.{spelled-term, spelled-terms, spelled-params, formula-spelled}
 use Rattle.plan_texts.proofs.SpelledEffects.{effect-spelled}
 use Rattle.htn_base.proofs.DifferentLemmas.{different-left, different-right}
 use Rattle.plan_model.specs.task_networks.Spelling.{numbers}
@@ -27,15 +26,14 @@ use Rattle.plan_model.specs.declared.terms.Term.{Term}
 use Rattle.plan_model.specs.declared.terms.Param.{Param}
 use Rattle.plan_model.specs.declared.formulas.Formula.{Formula}
 use Rattle.plan_model.specs.declared.effects.Effect.{Effect}
-use Rattle.plan_model.specs.declared.types.Object.{Object}
 use Rattle.plan_model.specs.declared.networks.Head.{Head}
 use Rattle.plan_model.specs.declared.networks.Head.TheVariants.{Task, Action, Check}
 use Rattle.plan_model.specs.declared.networks.Child.{Child}
 use Rattle.plan_model.specs.declared.networks.Pair.{Pair}
 use Rattle.plan_model.specs.declared.networks.Constraint.{Constraint}
 use Rattle.plan_model.specs.declared.values.Hddl.{Hddl}
-use Rattle.hddl_texts.specs.PrintedHddl.{subtask_word, order_part, called_part, head_word, subtask_part, subtasks_parts, equation_part, constraint_part_by, constraint_part}
-use Rattle.hddl_texts.proofs.KeptWords.{Keeps, kept-term, kept-terms, kept-atom, kept-formula, kept-effect, same-params}
+use Rattle.hddl_texts.specs.PrintedHddl.{subtask_word, order_part, called_part, head_word, subtasks_parts, equation_part, constraint_part_by, constraint_part}
+use Rattle.hddl_texts.proofs.KeptWords.{Keeps, kept-term, kept-terms, kept-formula, kept-effect, same-params}
 use Rattle.hddl_texts.proofs.SubtaskWords.{subtask-plain, subtasks-differ, subtask-at}
 use Rattle.hddl_texts.proofs.Lists.{each-left, each-right, different-apart, first-none}
 
@@ -149,8 +147,7 @@ module _ (g : Hddl) (w : Declared) (keeps : Keeps w (hddl_words g)) (has : HasWo
         let a = terms-spelled scope ts p f in
         let l = slice_get_within g.tasks t e.0 e.1 in
         let m : length (task_words g) ≡ length g.tasks = length-map _ g.tasks in
-        let k : t < length (task_words g) = omega arith in
-        (
+        let k : t < length (task_words g) = omega arith in (
           (word_at (task_words g) t, all_parts (map (term_part v scope) ts), refl, h.0.1, first-different (task_words g) t (different-left (task_words g) (action_words g) sound.calls_differ) k, a.0),
           (plain-token (word_at (task_words g) t) h.0, a.1),
         )

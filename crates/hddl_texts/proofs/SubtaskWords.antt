@@ -1,5 +1,5 @@
 -- The printed ids of subtasks: folded names, no two the same.
-use Rattle.std.proofs.Common.{ℕ, zero, suc, ◌≡◌, ◌+◌, ◌<◌, ◌≤◌, ◌^◌, ◌&&◌, ◌==◌, Bool, true, List, [], ◌∷◌, map, length, codes, drop, refl, ap, ap₂, sym, subst, ◌∙◌, Contains, arith}
+use Rattle.std.proofs.Common.{ℕ, zero, suc, ◌≡◌, ◌+◌, ◌<◌, ◌≤◌, ◌^◌, ◌&&◌, ◌==◌, Bool, true, List, [], ◌∷◌, map, drop, refl, ap, ap₂, ◌∙◌, Contains, arith}
 use Rattle.std.specs.Char.{to_ascii_lowercase, is_ascii_digit}
 use Rattle.std.specs.Fmt.{decimal}
 use Rattle.std.specs.Str.Parse.{AllDigits}
@@ -9,7 +9,7 @@ use Rattle.std.proofs.lemmas.Fmt.{decimal_is_IsNumeral, decimal_injective}
 use Rattle.std.proofs.lemmas.Str.Parse.{tells_digits}
 use Rattle.htn_base.specs.Different.{AreDifferent}
 use Rattle.text_forms.specs.Bytes.{is_letter}
-use Rattle.text_forms.specs.Words.{Word, word_at}
+use Rattle.text_forms.specs.Words.{word_at}
 use Rattle.text_forms.specs.Printing.{are_folded}
 use Rattle.plan_texts.specs.Types.{EachIs}
 use Rattle.plan_texts.specs.Printable.{IsPlain}

@@ -1,30 +1,19 @@
 -- A sound problem with the printed ids is sound, and its two texts are the same.
-use Rattle.std.proofs.Common.{ℕ, suc, ◌≡◌, ◌+◌, ◌<◌, ◌≤◌, ◌^◌, max, inl, inr, Bool, true, false, List, [], ◌∷◌, ◌++◌, map, length, codes, refl, ap, sym, subst, ◌∙◌, Contains, arith}
-use Rattle.std.specs.List.{filter_map}
-use Rattle.std.proofs.Math.Nat.{le-max_left, le-max_right}
+use Rattle.std.proofs.Common.{ℕ, suc, ◌≡◌, ◌<◌, List, [], ◌∷◌, ◌++◌, map, length, refl, ap, sym, subst, ◌∙◌}
 use Rattle.htn_base.specs.Different.{AreDifferent}
 use Rattle.htn_base.specs.declared.name.Name.{Name}
-use Rattle.text_forms.specs.Lists.{Part, Parts, name, group, nothing, part}
-use Rattle.text_forms.specs.Words.{Word, is_name, word_at}
-use Rattle.text_forms.specs.Printing.{headed, page}
+use Rattle.text_forms.specs.Words.{Word, word_at}
 use Rattle.plan_texts.specs.Declared.{Declared, named, type_words, variable, words_with}
 use Rattle.plan_texts.specs.Types.{EachIs, Has}
-use Rattle.plan_texts.specs.Printed.{all_parts, typed_parts, term_part, params_parts, formula_part, effect_part}
-use Rattle.plan_texts.specs.PrintedTexts.{object_words, predicate_part, action_part, fact_part}
 use Rattle.plan_texts.specs.Printable.{IsPlain, IsInForce, IsSoundAtom, IsSoundParam, AreSoundParams, IsSound, IsSoundEffect}
-use Rattle.plan_texts.specs.SpellsHddl.{hddl_types, hddl_unions, hddl_words, task_words, action_words}
-use Rattle.plan_texts.specs.SoundValue.{arities, scope_of, method_words, IsSoundHead, IsSoundMethod, IsSoundHddl}
-use Rattle.plan_texts.proofs.Members.{length-map}
+use Rattle.plan_texts.specs.SpellsHddl.{hddl_types, hddl_words, task_words, action_words}
+use Rattle.plan_texts.specs.SoundValue.{arities, scope_of, IsSoundHead, IsSoundMethod, IsSoundHddl}
 use Rattle.plan_texts.proofs.Places.{name-variable}
 use Rattle.plan_texts.proofs.SoundProblems.{each-more}
-use Rattle.plan_model.specs.declared.terms.Term.{Term}
 use Rattle.plan_model.specs.declared.terms.Term.TheVariants.{Obj}
-use Rattle.plan_model.specs.declared.terms.Param.{Param}
 use Rattle.plan_model.specs.declared.terms.GroundAtom.{GroundAtom}
 use Rattle.plan_model.specs.declared.types.Object.{Object}
-use Rattle.plan_model.specs.declared.types.Parent.{Parent}
-use Rattle.plan_model.specs.declared.networks.Head.{Head}
-use Rattle.plan_model.specs.declared.networks.Head.TheVariants.{Task, Action, Check}
+use Rattle.plan_model.specs.declared.networks.Head.TheVariants.{Task}
 use Rattle.plan_model.specs.declared.networks.Child.{Child}
 use Rattle.plan_model.specs.declared.networks.Constraint.{Constraint}
 use Rattle.plan_model.specs.declared.schemas.Predicate.{Predicate}
@@ -32,9 +21,9 @@ use Rattle.plan_model.specs.declared.schemas.TaskSchema.{TaskSchema}
 use Rattle.plan_model.specs.declared.schemas.ActionSchema.{ActionSchema}
 use Rattle.plan_model.specs.declared.schemas.MethodSchema.{MethodSchema}
 use Rattle.plan_model.specs.declared.values.Hddl.{Hddl}
-use Rattle.hddl_texts.specs.PrintedHddl.{subtask_word, order_part, bundled, called_part, head_word, subtask_part, subtasks_parts, equation_part, constraint_part_by, constraint_part, variables_part, network_parts, task_part, method_part, top_part, requirements, constants_of, others_of, hddl_domain_text, hddl_problem_text}
+use Rattle.hddl_texts.specs.PrintedHddl.{constants_of}
 use Rattle.hddl_texts.specs.Ids.{children_with_ids, method_with_ids, id_words, with_ids, with_constants, IsOfTwoTexts}
-use Rattle.hddl_texts.proofs.KeptWords.{Keeps, not-empty, same-variables, kept-each_param, kept-params, same-params, kept-term, kept-terms, kept-atom, kept-formula, kept-effect}
+use Rattle.hddl_texts.proofs.KeptWords.{Keeps, not-empty, same-variables, kept-each_param, kept-params, kept-term, kept-terms, kept-atom, kept-formula, kept-effect}
 use Rattle.hddl_texts.proofs.Lists.{word-ahead, word-within, each-filter}
 
 -- what is so of each item of three lists that are one

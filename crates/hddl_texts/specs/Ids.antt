@@ -1,5 +1,5 @@
 -- The ids of subtasks that printed texts write, and what a value needs beside soundness to be written as two texts.
--- Source: this project's; that a domain names its own constants alone is the grammar's (Höller et al., "HDDL", AAAI 2020: constants and objects).
+-- Source: this project's; that a domain names its own constants alone is the grammar's (Höller et al., "HDDL", AAAI 2020).
 use Rattle.std.specs.Prelude.{ℕ, suc, ◌≡◌, max, List, [], ◌∷◌, ◌++◌, map, length, codes, Some}
 use Rattle.text_forms.specs.Words.{Word}
 use Rattle.plan_texts.specs.Declared.{named}
@@ -30,7 +30,16 @@ children_with_ids n [] = []
 children_with_ids n (c ∷ cs) = record { id = Some (record { number = n }); head = c.head; args = c.args } ∷ children_with_ids (suc n) cs
 
 abbrev pub method_with_ids : ℕ → MethodSchema → MethodSchema
-method_with_ids n s = record { name = s.name; params = s.params; task = s.task; task_args = s.task_args; pre = s.pre; children = children_with_ids n s.children; pairs = s.pairs; constraints = s.constraints }
+method_with_ids n s = record {
+  name = s.name;
+  params = s.params;
+  task = s.task;
+  task_args = s.task_args;
+  pre = s.pre;
+  children = children_with_ids n s.children;
+  pairs = s.pairs;
+  constraints = s.constraints;
+}
 
 -- the same problem, where the subtask at place k of a network has the id sk
 abbrev pub with_ids : Hddl → Hddl

@@ -23,5 +23,6 @@ IsFirstPast limit domain problem n =
 -- the two texts of the problem, neither longer than the limit; or the length of the first that is
 abbrev pub ArePrintedWithin : Hddl → (limit : ℕ) → Printed → Type 0
 ArePrintedWithin h limit (P.Whole texts) =
-    (texts.domain ≡ hddl_domain_text h) × (texts.problem ≡ hddl_problem_text h) × (capped (length texts.domain) ≤ limit) × (capped (length texts.problem) ≤ limit)
+    (texts.domain ≡ hddl_domain_text h) × (texts.problem ≡ hddl_problem_text h)
+    × (capped (length texts.domain) ≤ limit) × (capped (length texts.problem) ≤ limit)
 ArePrintedWithin h limit (P.TooLong n) = IsFirstPast limit (hddl_domain_text h) (hddl_problem_text h) n

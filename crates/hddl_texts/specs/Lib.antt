@@ -1,3 +1,4 @@
 pub mod PrintedHddl
+pub mod Texts
 pub mod Lengths
 pub mod Ids

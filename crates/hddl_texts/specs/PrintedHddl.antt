@@ -1,5 +1,6 @@
 -- The two texts that are printed for an HDDL value, in one form for each part.
--- Source: the full syntax definition of HDDL, Höller et al., "HDDL: An Extension to PDDL for Expressing Hierarchical Planning Problems", AAAI 2020; the lines, and the ids s0, s1 and so on of subtasks, are this project's.
+-- Source: the full syntax definition of HDDL, Höller et al., "HDDL: An Extension to PDDL for Expressing Hierarchical Planning Problems",
+-- AAAI 2020; the lines, and the ids s0, s1 and so on of subtasks, are this project's.
 use Rattle.std.specs.Prelude.{ℕ, suc, Bool, true, false, not, List, [], ◌∷◌, ◌++◌, map, filter, codes, decimal}
 use Rattle.text_forms.specs.Lists.{Part, Parts, name, group, nothing, part}
 use Rattle.text_forms.specs.Words.{Word, word_at}
@@ -62,7 +63,8 @@ module _ (h : Hddl) where
 
   -- (= term term)
   abbrev pub equation_part : List Word → Term → Term → Part
-  equation_part scope s t = headed (codes "=") (part (term_part (hddl_words h) scope s) (part (term_part (hddl_words h) scope t) nothing))
+  equation_part scope s t =
+      headed (codes "=") (part (term_part (hddl_words h) scope s) (part (term_part (hddl_words h) scope t) nothing))
 
   -- an equation, or (not (= term term))
   abbrev pub constraint_part_by : List Word → Bool → Term → Term → Part
@@ -81,11 +83,14 @@ module _ (h : Hddl) where
   network_parts s =
       part (name (codes ":subtasks")) (part (bundled (subtasks_parts (scope_of h s.params) 0 s.children))
       (part (name (codes ":ordering")) (part (bundled (all_parts (map order_part s.pairs)))
-      (part (name (codes ":constraints")) (part (bundled (all_parts (map (constraint_part (scope_of h s.params)) s.constraints))) nothing)))))
+      (part (name (codes ":constraints"))
+      (part (bundled (all_parts (map (constraint_part (scope_of h s.params)) s.constraints))) nothing)))))
 
   -- (:task NAME :parameters (..))
   abbrev pub task_part : TaskSchema → Part
-  task_part t = headed (codes ":task") (part (name (named h.names t.name)) (part (name (codes ":parameters")) (part (variables_part t.params) nothing)))
+  task_part t =
+      headed (codes ":task") (part (name (named h.names t.name))
+      (part (name (codes ":parameters")) (part (variables_part t.params) nothing)))
 
   -- (:method NAME :parameters (..) :task (NAME term term ..) :precondition F and the network)
   abbrev pub method_part : MethodSchema → Part
@@ -104,7 +109,9 @@ module _ (h : Hddl) where
   schema_parts = map task_part h.tasks ++ (map method_part h.methods ++ map (action_part (hddl_words h)) h.actions)
 
 abbrev pub requirements : Part
-requirements = headed (codes ":requirements") (part (name (codes ":adl")) (part (name (codes ":typing")) (part (name (codes ":hierarchy")) (part (name (codes ":method-preconditions")) nothing))))
+requirements =
+    headed (codes ":requirements") (part (name (codes ":adl")) (part (name (codes ":typing"))
+    (part (name (codes ":hierarchy")) (part (name (codes ":method-preconditions")) nothing))))
 
 abbrev pub hddl_domain_parts : Hddl → Parts
 hddl_domain_parts h =

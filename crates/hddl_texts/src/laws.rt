@@ -1,5 +1,6 @@
 // What printed texts of HDDL say.
 ghost use Rattle.std.specs.Prelude.{◌≤◌, ◌^◌, length};
+ghost use Rattle.plan_texts.specs.Alike.{AreAlikeHddl};
 ghost use Rattle.plan_texts.specs.SpellsHddl.{SpellsHddl};
 ghost use Rattle.plan_texts.specs.SoundProblem.{IsSoundProblem};
 ghost use Rattle.plan_model.specs.plan_meaning.Laws.{AreOrdered};
@@ -12,7 +13,23 @@ use plan_model::Hddl;
 pub fn printed_hddl_spells(problem: &Hddl)
     requires sound { IsSoundProblem problem.now }
     requires apart { IsOfTwoTexts problem.now }
-    ensures spelled { SpellsHddl (hddl_domain_text problem.now) (hddl_problem_text problem.now) (with_ids problem.now) }
+    ensures spelled { SpellsHddl (hddl_domain_text problem.now) (hddl_problem_text problem.now)
+        (with_ids problem.now) }
     ensures sound { length (with_ids problem.now).names ≤ 2 ^ 26 → IsSoundProblem (with_ids problem.now) }
     ensures ordered { AreOrdered problem.now → AreOrdered (with_ids problem.now) }
+{}
+
+/// Each value that these two texts spell is alike to it, but for the ids of subtasks.
+pub fn printed_hddl_is_read_alike(problem: &Hddl, read: &Hddl)
+    requires sound { IsSoundProblem problem.now }
+    requires apart { IsOfTwoTexts problem.now }
+    requires spelled { SpellsHddl (hddl_domain_text problem.now) (hddl_problem_text problem.now) read.now }
+    ensures { AreAlikeHddl (with_ids problem.now) read.now }
+{}
+
+/// What two texts spell is of two texts: the constants stand first, and the domain names them alone.
+pub fn spelled_are_of_two_texts(domain: &[u8], problem: &[u8], value: &Hddl)
+    requires spelled { SpellsHddl domain.now problem.now value.now }
+    requires sound { IsSoundProblem value.now }
+    ensures { IsOfTwoTexts value.now }
 {}
