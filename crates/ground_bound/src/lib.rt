@@ -7,14 +7,18 @@
 //! `ground_tail_recursive_has_one_bound`).
 //!
 //! A search for what is reached goes by `searches_are_sound`. It is not whole yet, and nothing calls it: what stands of it goes once over
-//! all actions, puts a method that may be used to what is found, and counts. It stands on `ground_state` and `problem_index` for truth and
-//! effects, and on `indexmap` for rows that stand once.
+//! all actions, puts a method that may be used to what is found, joins what is known of a method's values with the atoms that its
+//! precondition needs (`joined`, over an index of all atoms that may be true), and counts. It stands on `ground_state` and
+//! `problem_index` for truth and effects, on `value_choices` for values, and on `indexmap` for rows that stand once.
 #![tactic(auto)]
 
+mod atom_index;
 mod count;
+mod demand;
 mod found;
 mod ground_error;
 mod in_force;
+mod join;
 mod laws;
 mod networks;
 mod reached;
