@@ -1,0 +1,5 @@
+pub mod MaySource
+pub mod MaySame
+pub mod SameNetwork
+pub mod SameReached
+pub mod GroundAlike
