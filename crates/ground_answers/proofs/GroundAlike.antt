@@ -5,6 +5,7 @@ use Rattle.decode_answers.proofs.AlikeValues.{AreTwins}
 use Rattle.ground_answers.specs.GroundLaws.{AreGroundAlike, ValuesHaveOneGroundBound}
 use Rattle.ground_answers.proofs.SameNetwork.{bound_to, cycle_to}
 use Rattle.ground_answers.proofs.SameReached.{all_reached_to, size_to}
+use Rattle.ground_answers.proofs.SameWords.{words_same}
 
 ground_alike : (c k : Compiled) → AreTwins c k → AreGroundAlike c k
 ground_alike c k t = record {
@@ -17,6 +18,7 @@ ground_alike c k t = record {
     reached = all_reached_to c k t b.methods b.atoms b.reached;
     named = cycle_to c k t b.methods e walk b.named;
   };
+  words = words_same c k t;
 }
 
 pub values_have_one_ground_bound : ValuesHaveOneGroundBound
