@@ -46,12 +46,14 @@ one_translation_said : (n o : List Word) (r s : TranslationRequest) → SayTrans
 one_translation_said n o r s a b =
     let e : names_in r.names ≡ names_in s.names = sym a.files ∙ b.files in
     let numeral = a.numeral ∙ sym b.numeral in
+    let level = one_some r.level s.level a.level b.level in
     let style = one_some r.style s.style a.style b.style in
     let checks = one_some r.checks s.checks a.checks b.checks in
     λ i.
     record {
       names = record { domain = get_or (e i) 0 []; problem = get_or (e i) 1 []; printed_domain = get_or (e i) 2 []; printed_problem = get_or (e i) 3 [] };
       numeral = numeral i;
+      level = level i;
       style = style i;
       checks = checks i;
     }
@@ -59,15 +61,25 @@ one_translation_said n o r s a b =
 one_bound_said : (n o : List Word) (r s : BoundRequest) → SayBound n o r → SayBound n o s → r ≡ s
 one_bound_said n o r s a b =
     let e : r.domain ∷ r.problem ∷ [] ≡ s.domain ∷ s.problem ∷ [] = sym a.files ∙ b.files in
+    let level = one_some r.level s.level a.level b.level in
     let checks = one_some r.checks s.checks a.checks b.checks in
-    λ i. record { domain = get_or (e i) 0 []; problem = get_or (e i) 1 []; checks = checks i }
+    λ i. record { domain = get_or (e i) 0 []; problem = get_or (e i) 1 []; level = level i; checks = checks i }
 
 one_decode_said : (n o : List Word) (r s : DecodeRequest) → SayDecode n o r → SayDecode n o s → r ≡ s
 one_decode_said n o r s a b =
     let e : r.domain ∷ r.problem ∷ r.plan ∷ [] ≡ s.domain ∷ s.problem ∷ s.plan ∷ [] = sym a.files ∙ b.files in
     let numeral = a.numeral ∙ sym b.numeral in
+    let level = one_some r.level s.level a.level b.level in
     let checks = one_some r.checks s.checks a.checks b.checks in
-    λ i. record { domain = get_or (e i) 0 []; problem = get_or (e i) 1 []; plan = get_or (e i) 2 []; numeral = numeral i; checks = checks i }
+    λ i.
+    record {
+      domain = get_or (e i) 0 [];
+      problem = get_or (e i) 1 [];
+      plan = get_or (e i) 2 [];
+      numeral = numeral i;
+      level = level i;
+      checks = checks i;
+    }
 
 one_encode_said : (n o : List Word) (r s : EncodeRequest) → SayEncode n o r → SayEncode n o s → r ≡ s
 one_encode_said n o r s a b =

@@ -1,5 +1,5 @@
 -- It is told which request words ask for, or that they ask for none.
-use Rattle.std.proofs.Common.{ℕ, ◌≡◌, ◌≤◌, ◌⊎◌, inl, inr, true, false, true≢false, List, [], ◌∷◌, ◌++◌, length, ◌+◌, take, drop, get_or, Option, Some, None, refl, sym, ap, subst, ◌∙◌, arith}
+use Rattle.std.proofs.Common.{ℕ, ◌≡◌, ◌≤◌, ◌⊎◌, inl, inr, true, false, true≢false, List, [], ◌∷◌, ◌++◌, length, ◌+◌, take, drop, get_or, Option, Some, None, IfSome, codes, refl, sym, ap, subst, ◌∙◌, arith}
 use Rattle.std.specs.Char.{is_ascii_digit}
 use Rattle.std.specs.List.{Contains, list_all, list_any}
 use Rattle.std.specs.Str.{bytes_eq}
@@ -11,7 +11,7 @@ use Rattle.std.proofs.lemmas.Slice.Eq.{bytes_eq-Decides}
 use Rattle.command_words.specs.Names.{Word, Names, AreApart}
 use Rattle.command_words.specs.Bounds.{IsNumeral, IsCount}
 use Rattle.command_words.specs.Forms.{Row, said, AreOptions, AreOf, translation_form, bound_form, decode_form, encode_form, validation_form, make_form}
-use Rattle.command_words.specs.Options.{AreSlots, slots_said, style_said, checks_said}
+use Rattle.command_words.specs.Options.{AreSlots, slots_said, style_said, checks_said, level_said, IsComputed}
 use Rattle.command_words.specs.Words.{TranslationRequest, BoundRequest, DecodeRequest, EncodeRequest, ValidationRequest, MakeRequest, to_translate, to_bound, to_decode, to_encode, to_validate, to_make, AskBy, SayTranslation, SayBound, SayDecode, SayEncode, SayValidation, SayMake, AsksTranslation, AsksBound, AsksDecode, AsksEncode, AsksValidation, AsksMake, AreOfAForm}
 use Rattle.command_words.proofs.Said.{among_told}
 use Rattle.command_words.proofs.Requests.{not_said, no_form}
@@ -130,22 +130,34 @@ abbrev SaysTold : {R : Type 0} → (List Word → List Word → R → Type 0) �
 SaysTold {R} Say names options = ((r : R) × Say names options r) ⊎ ((r : R) → Say names options r → ⊥)
 
 module _ (options : List Word) where
+  computed_told : Or_not (IsComputed options)
+  computed_told = go (slots_said options) (none_told (said (codes "--level") options))
+    where
+      go : (o : Option Word) → Or_not (said (codes "--level") options ≡ None) → Or_not (IfSome o (λ numeral. said (codes "--level") options ≡ None))
+      go None d = inl tt
+      go (Some numeral) d = d
+
   translation_of_four : (n : Names) → SaysTold SayTranslation (n.domain ∷ n.problem ∷ n.printed_domain ∷ n.printed_problem ∷ []) options
-  translation_of_four n = go (both (apart_told n) (slots_told (slots_said options))) (value_told (style_said options)) (value_told (checks_said options))
+  translation_of_four n =
+      go (both (apart_told n) (both (slots_told (slots_said options)) computed_told)) (value_told (level_said options)) (value_told (style_said options))
+      (value_told (checks_said options))
     where
       same : (r : TranslationRequest) → SayTranslation (n.domain ∷ n.problem ∷ n.printed_domain ∷ n.printed_problem ∷ []) options r → r.names ≡ n
       same r s = let e = sym s.files in λ i. record { domain = get_or (e i) 0 []; problem = get_or (e i) 1 []; printed_domain = get_or (e i) 2 []; printed_problem = get_or (e i) 3 [] }
 
-      go : Or_not (AreApart n × AreSlots (slots_said options)) → ((v : _) × (style_said options ≡ Some v)) ⊎ ((v : _) → style_said options ≡ Some v → ⊥)
+      go : Or_not (AreApart n × (AreSlots (slots_said options) × IsComputed options))
+          → ((v : _) × (level_said options ≡ Some v)) ⊎ ((v : _) → level_said options ≡ Some v → ⊥)
+          → ((v : _) × (style_said options ≡ Some v)) ⊎ ((v : _) → style_said options ≡ Some v → ⊥)
           → ((v : _) × (checks_said options ≡ Some v)) ⊎ ((v : _) → checks_said options ≡ Some v → ⊥)
           → SaysTold SayTranslation (n.domain ∷ n.problem ∷ n.printed_domain ∷ n.printed_problem ∷ []) options
-      go (inl h) (inl s) (inl c) = inl (
-        record { names = n; numeral = slots_said options; style = s.0; checks = c.0 },
-        record { files = refl; numeral = refl; slots = h.1; style = s.1; checks = c.1; apart = h.0 },
+      go (inl h) (inl l) (inl s) (inl c) = inl (
+        record { names = n; numeral = slots_said options; level = l.0; style = s.0; checks = c.0 },
+        record { files = refl; numeral = refl; slots = h.1.0; level = l.1; computed = h.1.1; style = s.1; checks = c.1; apart = h.0 },
       )
-      go (inr m) s c = inr (λ r a. m (subst AreApart (same r a) a.apart, subst AreSlots a.numeral a.slots))
-      go (inl h) (inr m) c = inr (λ r a. m r.style a.style)
-      go (inl h) (inl s) (inr m) = inr (λ r a. m r.checks a.checks)
+      go (inr m) l s c = inr (λ r a. m (subst AreApart (same r a) a.apart, (subst AreSlots a.numeral a.slots, a.computed)))
+      go (inl h) (inr m) s c = inr (λ r a. m r.level a.level)
+      go (inl h) (inl l) (inr m) c = inr (λ r a. m r.style a.style)
+      go (inl h) (inl l) (inl s) (inr m) = inr (λ r a. m r.checks a.checks)
 
   not_four : (names : List Word) → (length names ≡ 4 → ⊥) → (r : TranslationRequest) → SayTranslation names options r → ⊥
   not_four names l r a = l (ap length a.files)
@@ -164,23 +176,31 @@ module _ (options : List Word) where
   bound_told : (names : List Word) → SaysTold SayBound names options
   bound_told [] = inr (not_two [] (λ e. omega (arith, e)))
   bound_told (d ∷ []) = inr (not_two (d ∷ []) (λ e. omega (arith, e)))
-  bound_told (d ∷ p ∷ []) = elim (value_told (checks_said options)) [
-    | inl c ↦ inl (record { domain = d; problem = p; checks = c.0 }, record { files = refl; checks = c.1 })
-    | inr m ↦ inr (λ r a. m r.checks a.checks)
-  ]
+  bound_told (d ∷ p ∷ []) = go (value_told (level_said options)) (value_told (checks_said options))
+    where
+      go : ((v : _) × (level_said options ≡ Some v)) ⊎ ((v : _) → level_said options ≡ Some v → ⊥)
+          → ((v : _) × (checks_said options ≡ Some v)) ⊎ ((v : _) → checks_said options ≡ Some v → ⊥) → SaysTold SayBound (d ∷ p ∷ []) options
+      go (inl l) (inl c) =
+          inl (record { domain = d; problem = p; level = l.0; checks = c.0 }, record { files = refl; level = l.1; checks = c.1 })
+      go (inr m) c = inr (λ r a. m r.level a.level)
+      go (inl l) (inr m) = inr (λ r a. m r.checks a.checks)
   bound_told (d ∷ p ∷ x ∷ names) = inr (not_two (d ∷ p ∷ x ∷ names) (λ e. omega (arith, e)))
 
   decode_of_three : (d p s : Word) → SaysTold SayDecode (d ∷ p ∷ s ∷ []) options
-  decode_of_three d p s = go (slots_told (slots_said options)) (value_told (checks_said options))
+  decode_of_three d p s =
+      go (both (slots_told (slots_said options)) computed_told) (value_told (level_said options)) (value_told (checks_said options))
     where
-      go : Or_not (AreSlots (slots_said options)) → ((v : _) × (checks_said options ≡ Some v)) ⊎ ((v : _) → checks_said options ≡ Some v → ⊥)
+      go : Or_not (AreSlots (slots_said options) × IsComputed options)
+          → ((v : _) × (level_said options ≡ Some v)) ⊎ ((v : _) → level_said options ≡ Some v → ⊥)
+          → ((v : _) × (checks_said options ≡ Some v)) ⊎ ((v : _) → checks_said options ≡ Some v → ⊥)
           → SaysTold SayDecode (d ∷ p ∷ s ∷ []) options
-      go (inl m) (inl c) = inl (
-        record { domain = d; problem = p; plan = s; numeral = slots_said options; checks = c.0 },
-        record { files = refl; numeral = refl; slots = m; checks = c.1 },
+      go (inl m) (inl l) (inl c) = inl (
+        record { domain = d; problem = p; plan = s; numeral = slots_said options; level = l.0; checks = c.0 },
+        record { files = refl; numeral = refl; slots = m.0; level = l.1; computed = m.1; checks = c.1 },
       )
-      go (inr m) c = inr (λ r a. m (subst AreSlots a.numeral a.slots))
-      go (inl m) (inr n) = inr (λ r a. n r.checks a.checks)
+      go (inr m) l c = inr (λ r a. m (subst AreSlots a.numeral a.slots, a.computed))
+      go (inl m) (inr n) c = inr (λ r a. n r.level a.level)
+      go (inl m) (inl l) (inr n) = inr (λ r a. n r.checks a.checks)
 
   not_files : (names : List Word) → (length names ≡ 3 → ⊥) → (r : DecodeRequest) → SayDecode names options r → ⊥
   not_files names l r a = l (ap length a.files)

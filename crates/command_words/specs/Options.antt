@@ -1,10 +1,12 @@
 -- The options of commands. One that takes a number of slots has a numeral; the others have a table of the words that are their values.
-use Rattle.std.specs.Prelude.{List, [], ◌∷◌, Option, Some, None, IfSome, codes, find, option_map}
+use Rattle.std.specs.Prelude.{◌≡◌, List, [], ◌∷◌, Option, Some, None, IfSome, codes, find, option_map}
 use Rattle.std.specs.Str.{bytes_eq}
 use Rattle.plan_model.specs.declared.options.Style.{Style}
 use Rattle.plan_model.specs.declared.options.Style.TheVariants.{Adl, Flat}
 use Rattle.plan_model.specs.declared.options.Checks.{Checks}
 use Rattle.plan_model.specs.declared.options.Checks.TheVariants.{Leaf, AtOnce}
+use Rattle.command_words.specs.declared.level.Level.{Level}
+use Rattle.command_words.specs.declared.level.Level.TheVariants.{Lifted, Ground}
 use Rattle.command_words.specs.Names.{Word}
 use Rattle.command_words.specs.Bounds.{IsNumeral}
 use Rattle.command_words.specs.Forms.{said}
@@ -20,6 +22,9 @@ style_words = (codes "adl", Adl) ∷ (codes "flat", Flat) ∷ []
 abbrev pub checks_words : List (Word × Checks)
 checks_words = (codes "leaf", Leaf) ∷ (codes "atonce", AtOnce) ∷ []
 
+abbrev pub level_words : List (Word × Level)
+level_words = (codes "lifted", Lifted) ∷ (codes "ground", Ground) ∷ []
+
 -- What words say by an option, from the words of all options.
 
 abbrev pub slots_said : List Word → Option Word
@@ -33,3 +38,10 @@ style_said options = value_by style_words Adl (said (codes "--style") options)
 
 abbrev pub checks_said : List Word → Option Checks
 checks_said options = value_by checks_words Leaf (said (codes "--checks") options)
+
+abbrev pub level_said : List Word → Option Level
+level_said options = value_by level_words Lifted (said (codes "--level") options)
+
+-- a level is said only where no number of slots is given, so that a bound is computed
+abbrev pub IsComputed : List Word → Type 0
+IsComputed options = IfSome (slots_said options) (λ numeral. said (codes "--level") options ≡ None)

@@ -3,6 +3,7 @@ use Rattle.std.specs.Prelude.{ℕ, ◌≡◌, ◌≢◌, List, [], ◌∷◌, Op
 use Rattle.std.specs.Str.Parse.{digits_value}
 use Rattle.plan_model.specs.declared.options.Style.{Style}
 use Rattle.plan_model.specs.declared.options.Checks.{Checks}
+use Rattle.command_words.specs.declared.level.Level.{Level}
 use Rattle.command_words.specs.declared.asking.Translation.{Translation}
 use Rattle.command_words.specs.declared.asking.Bounding.{Bounding}
 use Rattle.command_words.specs.declared.asking.Decoding.{Decoding}
@@ -16,29 +17,32 @@ use Rattle.command_words.specs.declared.commands.Command.TheVariants.{Translate,
 use Rattle.command_words.specs.Names.{Word, Names, names_of, names_in, AreApart}
 use Rattle.command_words.specs.Bounds.{IsCount}
 use Rattle.command_words.specs.Forms.{Row, AreOf, translation_form, bound_form, decode_form, encode_form, validation_form, make_form}
-use Rattle.command_words.specs.Options.{AreSlots, slots_said, style_said, checks_said}
+use Rattle.command_words.specs.Options.{AreSlots, slots_said, style_said, checks_said, level_said, IsComputed}
 
--- a translation that is asked for: its files, the numeral of its slots where one is given, its style, and how preconditions of methods
--- are checked
+-- a translation that is asked for: its files, the numeral of its slots where one is given, the level of a bound that is computed, its
+-- style, and how preconditions of methods are checked
 pub record TranslationRequest : Type 0 where
   pub names : Names
   pub numeral : Option Word
+  pub level : Level
   pub style : Style
   pub checks : Checks
 
--- a bound that is asked for: the files that are read, and how preconditions of methods are checked
+-- a bound that is asked for: the files that are read, its level, and how preconditions of methods are checked
 pub record BoundRequest : Type 0 where
   pub domain : Word
   pub problem : Word
+  pub level : Level
   pub checks : Checks
 
--- a decoding that is asked for: the HDDL texts and the plan, which are read, the numeral of the slots where one is given, and how
--- preconditions of methods are checked
+-- a decoding that is asked for: the HDDL texts and the plan, which are read, the numeral of the slots where one is given, the level of
+-- a bound that is computed, and how preconditions of methods are checked
 pub record DecodeRequest : Type 0 where
   pub domain : Word
   pub problem : Word
   pub plan : Word
   pub numeral : Option Word
+  pub level : Level
   pub checks : Checks
 
 -- an encoding that is asked for: the HDDL texts and the hierarchical plan, which are read, the numeral of the slots where one is given,
@@ -74,23 +78,29 @@ pub data Request : Type 0 where
 abbrev pub AskBy : {R : Type 0} → Row → (List Word → List Word → R → Type 0) → List Word → R → Type 0
 AskBy form Say words request = (names options : List Word) × AreOf form words names options × Say names options request
 
--- a translation keeps its inputs; its numeral is that of the option, its style is ADL and its checks are leaves where no option says more
+-- a translation keeps its inputs; its numeral is that of the option, its level is the lifted one, its style is ADL and its checks are
+-- leaves where no option says more
 pub record SayTranslation (names options : List Word) (request : TranslationRequest) : Type 0 where
   pub files : names ≡ names_in request.names
   pub numeral : request.numeral ≡ slots_said options
   pub slots : AreSlots request.numeral
+  pub level : level_said options ≡ Some request.level
+  pub computed : IsComputed options
   pub style : style_said options ≡ Some request.style
   pub checks : checks_said options ≡ Some request.checks
   pub apart : AreApart request.names
 
 pub record SayBound (names options : List Word) (request : BoundRequest) : Type 0 where
   pub files : names ≡ request.domain ∷ request.problem ∷ []
+  pub level : level_said options ≡ Some request.level
   pub checks : checks_said options ≡ Some request.checks
 
 pub record SayDecode (names options : List Word) (request : DecodeRequest) : Type 0 where
   pub files : names ≡ request.domain ∷ request.problem ∷ request.plan ∷ []
   pub numeral : request.numeral ≡ slots_said options
   pub slots : AreSlots request.numeral
+  pub level : level_said options ≡ Some request.level
+  pub computed : IsComputed options
   pub checks : checks_said options ≡ Some request.checks
 
 pub record SayEncode (names options : List Word) (request : EncodeRequest) : Type 0 where
@@ -145,13 +155,13 @@ number_of numeral = digits_value 10 numeral
 -- what is asked for, by its words
 
 abbrev pub translation_of : Translation → TranslationRequest
-translation_of t = record { names = names_of t.names; numeral = option_copied t.numeral; style = t.style; checks = t.checks }
+translation_of t = record { names = names_of t.names; numeral = option_copied t.numeral; level = t.level; style = t.style; checks = t.checks }
 
 abbrev pub bound_of : Bounding → BoundRequest
-bound_of b = record { domain = b.d.now; problem = b.p.now; checks = b.checks }
+bound_of b = record { domain = b.d.now; problem = b.p.now; level = b.level; checks = b.checks }
 
 abbrev pub decode_of : Decoding → DecodeRequest
-decode_of d = record { domain = d.d.now; problem = d.p.now; plan = d.plan.now; numeral = option_copied d.numeral; checks = d.checks }
+decode_of d = record { domain = d.d.now; problem = d.p.now; plan = d.plan.now; numeral = option_copied d.numeral; level = d.level; checks = d.checks }
 
 abbrev pub encode_of : Encoding → EncodeRequest
 encode_of e = record { domain = e.d.now; problem = e.p.now; hplan = e.hplan.now; numeral = option_copied e.numeral; checks = e.checks }
@@ -172,16 +182,17 @@ request_of (asked.Making m) = to_make (make_of m)
 
 -- the words ask for this command
 abbrev pub AskFor : List Word → Command → Type 0
-AskFor words (Translate d p od op bound style checks) =
+AskFor words (Translate d p od op bound level style checks) =
     AsksTranslation words record {
       names = record { domain = d.now; problem = p.now; printed_domain = od.now; printed_problem = op.now };
       numeral = option_copied bound;
+      level = level;
       style = style;
       checks = checks;
     }
-AskFor words (Bound d p checks) = AsksBound words record { domain = d.now; problem = p.now; checks = checks }
-AskFor words (Decode d p plan bound checks) =
-    AsksDecode words record { domain = d.now; problem = p.now; plan = plan.now; numeral = option_copied bound; checks = checks }
+AskFor words (Bound d p level checks) = AsksBound words record { domain = d.now; problem = p.now; level = level; checks = checks }
+AskFor words (Decode d p plan bound level checks) =
+    AsksDecode words record { domain = d.now; problem = p.now; plan = plan.now; numeral = option_copied bound; level = level; checks = checks }
 AskFor words (Encode d p hplan bound checks) =
     AsksEncode words record { domain = d.now; problem = p.now; hplan = hplan.now; numeral = option_copied bound; checks = checks }
 AskFor words (Validate pd pp plan) = AsksValidation words record { domain = pd.now; problem = pp.now; plan = plan.now }

@@ -1,3 +1,4 @@
+use crate::level::Level;
 use crate::names::Named;
 use plan_model::{Checks, Style};
 
@@ -12,32 +13,35 @@ pub enum Asked<'a> {
     Making(Making<'a>),
 }
 
-/// A translation that is asked for: its files, the numeral of its slots where one is given, its
-/// style and its checks of preconditions.
+/// A translation that is asked for: its files, the numeral of its slots where one is given, the level of
+/// a bound that is computed, its style and its checks of preconditions.
 #[derive(Clone, Copy)]
 pub struct Translation<'a> {
     pub names: Named<'a>,
     pub numeral: Option<&'a str>,
+    pub level: Level,
     pub style: Style,
     pub checks: Checks,
 }
 
-/// A bound that is asked for: the files that are read, and the checks of preconditions.
+/// A bound that is asked for: the files that are read, its level, and the checks of preconditions.
 #[derive(Clone, Copy)]
 pub struct Bounding<'a> {
     pub d: &'a str,
     pub p: &'a str,
+    pub level: Level,
     pub checks: Checks,
 }
 
 /// A decoding that is asked for: the HDDL domain and problem and the plan, which are read, the numeral of the slots where one is
-/// given, and the checks of preconditions.
+/// given, the level of a bound that is computed, and the checks of preconditions.
 #[derive(Clone, Copy)]
 pub struct Decoding<'a> {
     pub d: &'a str,
     pub p: &'a str,
     pub plan: &'a str,
     pub numeral: Option<&'a str>,
+    pub level: Level,
     pub checks: Checks,
 }
 

@@ -1,3 +1,4 @@
+use crate::level::Level;
 use plan_model::{Checks, Style};
 
 /// What the words of the command line ask for. Files are named by their words.
@@ -10,6 +11,7 @@ pub enum Command<'a> {
         od: &'a str,
         op: &'a str,
         bound: Option<&'a str>,
+        level: Level,
         style: Style,
         checks: Checks,
     },
@@ -17,6 +19,7 @@ pub enum Command<'a> {
     Bound {
         d: &'a str,
         p: &'a str,
+        level: Level,
         checks: Checks,
     },
     /// Read the HDDL domain `d` and problem `p`, and print the decomposition tree that the plan in `plan` spells.
@@ -25,6 +28,7 @@ pub enum Command<'a> {
         p: &'a str,
         plan: &'a str,
         bound: Option<&'a str>,
+        level: Level,
         checks: Checks,
     },
     /// Read the HDDL domain `d` and problem `p`, and print the steps of the latest schedule of the hierarchical plan in `hplan`.

@@ -16,19 +16,19 @@ pub(crate) struct Form<'a> {
 pub(crate) const TRANSLATION: Form<'static> = Form {
     command: "translate",
     names: 4,
-    options: &["--bound", "--style", "--checks"],
+    options: &["--bound", "--level", "--style", "--checks"],
 };
 
 pub(crate) const BOUND: Form<'static> = Form {
     command: "bound",
     names: 2,
-    options: &["--checks"],
+    options: &["--level", "--checks"],
 };
 
 pub(crate) const DECODING: Form<'static> = Form {
     command: "decode",
     names: 3,
-    options: &["--bound", "--checks"],
+    options: &["--bound", "--level", "--checks"],
 };
 
 pub(crate) const ENCODING: Form<'static> = Form {

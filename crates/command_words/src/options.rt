@@ -1,10 +1,11 @@
 ghost use Rattle.std.specs.Prelude.{◌≡◌, ◌↔◌, IsTrue};
 ghost use Rattle.std.specs.Option.{option_copied};
 ghost use Rattle.command_words.specs.Names.{words_of};
-ghost use Rattle.command_words.specs.Options.{AreSlots, checks_said, slots_said, style_said};
+ghost use Rattle.command_words.specs.Options.{AreSlots, checks_said, IsComputed, level_said, slots_said, style_said};
 
 use crate::bounds::is_numeral;
 use crate::forms::said;
+use crate::level::Level;
 use plan_model::{Checks, Style};
 
 /// The word for a number of slots, where the options have one.
@@ -45,5 +46,27 @@ pub(crate) fn checks(options: &[String]) -> Option<Checks>
         Some(word) if word == "leaf" => Some(Checks::Leaf),
         Some(word) if word == "atonce" => Some(Checks::AtOnce),
         Some(_) => None,
+    }
+}
+
+/// The level that the options say; `None` where its word is of no level.
+pub(crate) fn level(options: &[String]) -> Option<Level>
+    ensures { result ≡ level_said (words_of options.now) }
+{
+    match said("--level", options) {
+        None => Some(Level::Lifted),
+        Some(word) if word == "lifted" => Some(Level::Lifted),
+        Some(word) if word == "ground" => Some(Level::Ground),
+        Some(_) => None,
+    }
+}
+
+/// Whether a level is said only where no number of slots is given.
+pub(crate) fn is_computed(options: &[String]) -> bool
+    ensures { IsTrue result ↔ IsComputed (words_of options.now) }
+{
+    match slots(options) {
+        Some(_) => said("--level", options).is_none(),
+        None => true,
     }
 }

@@ -8,16 +8,17 @@ use crate::bounds::{count_of, is_count};
 use crate::commands::Command;
 use crate::forms::{BOUND, DECODING, ENCODING, MAKING, TRANSLATION, VALIDATION, parts_of};
 use crate::names::{Named, are_apart};
-use crate::options::{are_slots, checks, slots, style};
+use crate::options::{are_slots, checks, is_computed, level, slots, style};
 
 /// The command that the words ask for; `None` exactly where the words are of no command's form.
 /// It takes no memory.
 ///
-/// The forms are `translate D P OD OP` with the options `--bound N`, `--style adl|flat` and
-/// `--checks leaf|atonce`, where OD and OP differ and neither is D or P, `bound D P` with the
-/// option `--checks leaf|atonce`, `decode D P PLAN` and `encode D P HPLAN` with the options `--bound N` and
-/// `--checks leaf|atonce`, `validate PD PP PLAN`, and `make K OD OP`, where OD and OP differ. Options come in any order and
-/// may be left out: the style is then `adl`, and the checks are `leaf`.
+/// The forms are `translate D P OD OP` with the options `--bound N` or `--level lifted|ground`, `--style adl|flat` and
+/// `--checks leaf|atonce`, where OD and OP differ and neither is D or P, `bound D P` with the options `--level lifted|ground`
+/// and `--checks leaf|atonce`, `decode D P PLAN` with the options `--bound N` or `--level lifted|ground`, and
+/// `--checks leaf|atonce`, `encode D P HPLAN` with the options `--bound N` and `--checks leaf|atonce`, `validate PD PP PLAN`,
+/// and `make K OD OP`, where OD and OP differ. Options come in any order and may be left out: the level is then `lifted`, the
+/// style `adl`, and the checks are `leaf`.
 pub fn command(words: &[String]) -> Option<Command<'_>>
     ensures asked { IfSome result (AskFor (words_of words.now)) }
     ensures formless { IfNone result (AreOfAForm (words_of words.now) → ⊥) }
@@ -29,12 +30,14 @@ pub fn command(words: &[String]) -> Option<Command<'_>>
             od: asked.names.od,
             op: asked.names.op,
             bound: asked.numeral,
+            level: asked.level,
             style: asked.style,
             checks: asked.checks,
         }),
         Asked::Bound(asked) => Some(Command::Bound {
             d: asked.d,
             p: asked.p,
+            level: asked.level,
             checks: asked.checks,
         }),
         Asked::Decoding(asked) => Some(Command::Decode {
@@ -42,6 +45,7 @@ pub fn command(words: &[String]) -> Option<Command<'_>>
             p: asked.p,
             plan: asked.plan,
             bound: asked.numeral,
+            level: asked.level,
             checks: asked.checks,
         }),
         Asked::Encoding(asked) => Some(Command::Encode {
@@ -111,12 +115,13 @@ fn translation<'a>(names: &'a [String], options: &'a [String]) -> Option<Transla
     let (d, p, od, op) = (d.as_str(), p.as_str(), od.as_str(), op.as_str());
     let names = Named { d, p, od, op };
     let numeral = slots(options);
-    if !are_apart(&names) || !are_slots(numeral) {
+    if !are_apart(&names) || !are_slots(numeral) || !is_computed(options) {
         return None;
     }
     Some(Translation {
         names,
         numeral,
+        level: level(options)?,
         style: style(options)?,
         checks: checks(options)?,
     })
@@ -143,6 +148,7 @@ fn bound<'a>(names: &'a [String], options: &'a [String]) -> Option<Bounding<'a>>
     Some(Bounding {
         d: d.as_str(),
         p: p.as_str(),
+        level: level(options)?,
         checks: checks(options)?,
     })
 }
@@ -166,7 +172,7 @@ fn decoding<'a>(names: &'a [String], options: &'a [String]) -> Option<Decoding<'
         return None;
     };
     let numeral = slots(options);
-    if !are_slots(numeral) {
+    if !are_slots(numeral) || !is_computed(options) {
         return None;
     }
     Some(Decoding {
@@ -174,6 +180,7 @@ fn decoding<'a>(names: &'a [String], options: &'a [String]) -> Option<Decoding<'
         p: p.as_str(),
         plan: plan.as_str(),
         numeral,
+        level: level(options)?,
         checks: checks(options)?,
     })
 }

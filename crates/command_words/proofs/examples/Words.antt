@@ -2,9 +2,10 @@
 use Rattle.std.proofs.Common.{List, [], ◌∷◌, Some, codes, refl, ap, get_or, arith, lit≤, lit<}
 use Rattle.plan_model.specs.declared.options.Style.TheVariants.{Flat}
 use Rattle.plan_model.specs.declared.options.Checks.TheVariants.{Leaf, AtOnce}
+use Rattle.command_words.specs.declared.level.Level.TheVariants.{Lifted, Ground}
 use Rattle.command_words.specs.Names.{Word, Names, names_in, AreApart}
 use Rattle.command_words.specs.Forms.{AreOptions, translation_form, bound_form}
-use Rattle.command_words.specs.Words.{TranslationRequest, to_translate, to_bound, to_decode, to_encode, to_validate, to_make, AsksTranslation, AsksBound, AsksMake, AreOfAForm}
+use Rattle.command_words.specs.Words.{SayTranslation, TranslationRequest, to_translate, to_bound, to_decode, to_encode, to_validate, to_make, AsksTranslation, AsksBound, AsksMake, AreOfAForm}
 
 abbrev files : Names
 files = record { domain = codes "d.hddl"; problem = codes "p.hddl"; printed_domain = codes "od.pddl"; printed_problem = codes "op.pddl" }
@@ -18,24 +19,30 @@ abbrev options : List Word
 options = codes "--style" ∷ codes "flat" ∷ codes "--bound" ∷ codes "1" ∷ []
 
 abbrev request : TranslationRequest
-request = record { names = files; numeral = Some (codes "1"); style = Flat; checks = Leaf }
+request = record { names = files; numeral = Some (codes "1"); level = Lifted; style = Flat; checks = Leaf }
 
 one_slot : AsksTranslation (codes "translate" ∷ codes "d.hddl" ∷ codes "p.hddl" ∷ codes "od.pddl" ∷ codes "op.pddl" ∷ options) request
 one_slot = (
   names_in files,
   options,
-  record { spelled = refl; counted = refl; allowed = ((1, lit< tt, refl), refl, ((0, lit< tt, refl), refl, tt)) },
-  record { files = refl; numeral = refl; slots = record { digits = refl; some = lit≤ tt; few = lit≤ tt; above_zero = lit≤ tt }; style = refl; checks = refl; apart = files_apart },
+  record { spelled = refl; counted = refl; allowed = ((2, lit< tt, refl), refl, ((0, lit< tt, refl), refl, tt)) },
+  record { files = refl; numeral = refl; slots = record { digits = refl; some = lit≤ tt; few = lit≤ tt; above_zero = lit≤ tt }; level = refl; computed = refl; style = refl; checks = refl; apart = files_apart },
 )
 
--- a bound with its checks at once
-at_once : AsksBound (codes "bound" ∷ codes "d" ∷ codes "p" ∷ codes "--checks" ∷ codes "atonce" ∷ []) record { domain = codes "d"; problem = codes "p"; checks = AtOnce }
+-- a bound over what is reached, with its checks at once
+at_once : AsksBound (codes "bound" ∷ codes "d" ∷ codes "p" ∷ codes "--checks" ∷ codes "atonce" ∷ codes "--level" ∷ codes "ground" ∷ [])
+    record { domain = codes "d"; problem = codes "p"; level = Ground; checks = AtOnce }
 at_once = (
   codes "d" ∷ codes "p" ∷ [],
-  codes "--checks" ∷ codes "atonce" ∷ [],
-  record { spelled = refl; counted = refl; allowed = ((0, lit< tt, refl), refl, tt) },
-  record { files = refl; checks = refl },
+  codes "--checks" ∷ codes "atonce" ∷ codes "--level" ∷ codes "ground" ∷ [],
+  record { spelled = refl; counted = refl; allowed = ((1, lit< tt, refl), refl, ((0, lit< tt, refl), refl, tt)) },
+  record { files = refl; level = refl; checks = refl },
 )
+
+-- a level and a number of slots together are refused
+level_and_slots : (names : List Word) (r : TranslationRequest)
+    → SayTranslation names (codes "--level" ∷ codes "lifted" ∷ codes "--bound" ∷ codes "1" ∷ []) r → ⊥
+level_and_slots names r says = let e = says.computed in cc
 
 -- a count with zeros before it
 nine_digits : AsksMake (codes "make" ∷ codes "000000819" ∷ codes "od" ∷ codes "op" ∷ []) record { numeral = codes "000000819"; printed_domain = codes "od"; printed_problem = codes "op" }
