@@ -17,8 +17,10 @@ mod ground_error;
 mod in_force;
 mod laws;
 mod networks;
+mod reached;
 mod relaxed;
 mod row_set;
+mod search;
 
 pub use ground_error::{GroundEdge, GroundError};
 pub use laws::{

@@ -32,13 +32,15 @@ impl Model for KeptAtom {
 }
 
 impl KeptAtom {
-    pub(crate) fn predicate(&self) -> u32
+    /// The number of its predicate.
+    pub fn predicate(&self) -> u32
         ensures { result ≡ self.now.predicate }
     {
         self.predicate
     }
 
-    pub(crate) fn objects(&self) -> &[u32]
+    /// Its objects.
+    pub fn objects(&self) -> &[u32]
         ensures { result.now ≡ self.now.args }
     {
         self.args.as_slice()

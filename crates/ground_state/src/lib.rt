@@ -11,9 +11,11 @@
 //! `init`, an `Env` with the objects of an action's or a method's parameters, `holds` for a condition or the goal, and
 //! `State::apply` for an action's effect. Over a `World` of `problem_index`, which knows the objects of each type, `is_true` and
 //! `State::apply_in` do the same quickly, `fill` puts the objects of words in force, and `Need::of_compiled` is the room that an
-//! environment needs for all conditions and effects of a compiled problem.
+//! environment needs for all conditions and effects of a compiled problem. Where atoms are only added, `Additions` tells which ones an
+//! effect adds, and `State::add` puts one to the set.
 #![tactic(auto)]
 
+mod additions;
 mod arguments;
 mod atom_list;
 mod change;
@@ -30,7 +32,9 @@ mod step;
 mod truth;
 mod verdict;
 
+pub use additions::Additions;
 pub use arguments::fill;
+pub use atom_list::KeptAtom;
 pub use env::Env;
 pub use need::Need;
 pub use plan_model::FailWhy;

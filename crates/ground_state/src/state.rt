@@ -1,4 +1,4 @@
-ghost use Rattle.std.specs.Prelude.{◌≡◌, ◌++◌, ◌∷◌, [], ◌≤◌, ◌↔◌, false, length, IsTrue, Contains, Some, None};
+ghost use Rattle.std.specs.Prelude.{◌≡◌, ◌⊎◌, ◌++◌, ◌∷◌, [], ◌≤◌, ◌↔◌, false, length, IsTrue, Contains, Some, None};
 ghost use Rattle.std.specs.Prelude.{IfSome, IfOk, OnOk, OnErr};
 ghost use Rattle.plan_model.specs.plan_meaning.Truth.{ground};
 ghost use Rattle.problem_index.specs.Domains.{IsBelow, IsWithSome};
@@ -125,6 +125,15 @@ impl State {
             Some(notes) => notes.get(args),
             None => None,
         }
+    }
+
+    /// Puts the predicate of these objects to the set. After `Memory` the set is as it was.
+    pub fn add(&mut self, alloc: Global, predicate: u32, objects: &[u32]) -> Result<(), Memory>
+        ensures added { OnOk result
+            (spec.Has self.new (λ g. spec.atoms self.old g ⊎ (g ≡ spec.atom predicate objects.now))) }
+        ensures unchanged { OnErr result (spec.IsSame self.old self.new) }
+    {
+        self.insert(alloc, predicate, objects, true)
     }
 
     /// Notes this of the atom. After `Memory` the state is as it was.

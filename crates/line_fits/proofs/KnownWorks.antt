@@ -27,7 +27,7 @@ use Rattle.hplan_text.specs.ShownPlan.{source_word, task_name_by, name_of}
 use Rattle.plan_encoder.specs.Calls.{IsThere, AreThere, IsKnown, is_check, subtasks}
 use Rattle.plan_encoder.proofs.CallsApart.{typed_there, declared_is_known, named_in}
 use Rattle.plan_encoder.proofs.CompiledMethods.{head_is, works_are, written_at, sound_at, top_method, other_method}
-use Rattle.method_fits.proofs.TypedObjects.{typed_length}
+use Rattle.value_choices.proofs.TypedObjects.{typed_length}
 use Rattle.plan_model.specs.plan_meaning.Network.{InTypeOf}
 
 -- a variable in force is one of the list

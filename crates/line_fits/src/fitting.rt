@@ -1,7 +1,7 @@
 ghost use Rattle.std.specs.Prelude.{◌≤◌, ◌+◌, length, IfOk, IfErr};
 ghost use Rattle.htn_base.specs.Limits.{most_lines};
 ghost use Rattle.plan_texts.specs.SoundlyCompiled.{IsSoundlyCompiled};
-ghost use Rattle.method_fits.specs.Worlds.{IsWorldOf};
+ghost use Rattle.value_choices.specs.Worlds.{IsWorldOf};
 ghost use Rattle.line_fits.specs.Fitted as spec;
 ghost use Rattle.line_fits.specs.ByNumbers as numbers;
 

@@ -23,7 +23,7 @@ use Rattle.method_fits.specs.declared.fit.Fit.{Fit}
 use Rattle.plan_encoder.specs.Calls.{is_check, subtasks}
 use Rattle.method_fits.specs.Subtasks.{with_values, works_of, ArePut, AreWorksOf, IsSaid}
 use Rattle.method_fits.specs.Fits.{Decomposes, SaysTheSame, IsFit}
-use Rattle.method_fits.proofs.TypedObjects.{typed_length}
+use Rattle.value_choices.proofs.TypedObjects.{typed_length}
 
 abbrev task_of : Work → ℕ
 task_of (action a args) = a

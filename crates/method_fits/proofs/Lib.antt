@@ -1,4 +1,3 @@
 -- What a method's task and subtasks tell of its values.
-pub mod TypedObjects
 pub mod Steps
 pub mod FitLaws

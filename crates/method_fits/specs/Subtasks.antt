@@ -1,22 +1,16 @@
 -- The subtasks of a ground method: actions and tasks with their objects, without the check of its precondition.
 -- Source: Höller et al., "HDDL", AAAI 2020: tasks, methods and their instances.
-use Rattle.std.specs.Prelude.{ℕ, ◌≡◌, not, filter, map, MatchOption, List, [], ◌∷◌, Option}
+use Rattle.std.specs.Prelude.{ℕ, ◌≡◌, not, filter, map, List, [], ◌∷◌}
 use Rattle.plan_model.specs.declared.networks.Head.{Head}
 use Rattle.plan_model.specs.declared.networks.Head.TheVariants.{Task, Action, Check}
 use Rattle.plan_model.specs.declared.networks.Child.{Child}
-use Rattle.plan_model.specs.declared.terms.Param.{Param}
 use Rattle.plan_model.specs.declared.schemas.MethodPlan.{MethodPlan}
 use Rattle.plan_model.specs.declared.values.Compiled.{Compiled}
 use Rattle.plan_model.specs.plan_meaning.Truth.{values_of}
-use Rattle.plan_model.specs.plan_meaning.Network.{Work, action, check, task, GroundMethod, child_of, IsDeclared, AreParamsOf}
+use Rattle.plan_model.specs.plan_meaning.Network.{Work, GroundMethod, child_of, IsDeclared}
+use Rattle.value_choices.specs.DeclaredParams.{work_of}
 use Rattle.plan_encoder.specs.Calls.{is_check}
 use Rattle.method_fits.specs.declared.subtask.Subtask.{Subtask}
-
--- what is of this kind, with these objects; no subtask is a check
-abbrev pub work_of : Head → List ℕ → Work
-work_of (Task t) objects = task t objects
-work_of (Action a) objects = action a objects
-work_of Check objects = check 0 objects
 
 abbrev pub said_work : Subtask → Work
 said_work s = work_of s.head s.objects.now
@@ -32,12 +26,6 @@ abbrev pub works_of : GroundMethod → List Child → List Work
 works_of g children = filter (λ w. not (is_check w)) (map (child_of g) children)
 
 module _ (c : Compiled) where
-  -- the declared parameters of what is of this kind, where it is there
-  abbrev pub HasParams : Head → List ℕ → Option (List Param) → Type 0
-  HasParams head objects found = MatchOption found
-      ((params : List Param) → AreParamsOf c (work_of head objects) params → ⊥)
-      (AreParamsOf c (work_of head objects))
-
   -- the first of the works is this one, which is of declared types, if it is no check, and the rest are as they are to be
   abbrev pub ArePut : (List Work → Type 0) → Head → Work → List Work → Type 0
   ArePut rest Check w works = rest works

@@ -2,14 +2,14 @@ ghost use Rattle.std.specs.Prelude.{ℕ, ◌≡◌, ◌≢◌, ◌↔◌, IsTrue
 ghost use Rattle.plan_model.specs.declared.networks.Head.TheVariants.{Check};
 ghost use Rattle.plan_model.specs.plan_meaning.Network.{child_of, IsDeclared};
 ghost use Rattle.value_choices.specs.Settled.{Settles};
-ghost use Rattle.method_fits.specs.Worlds.{IsWorldOf};
+ghost use Rattle.value_choices.specs.Worlds.{IsWorldOf};
+ghost use Rattle.value_choices.specs.DeclaredParams.{work_of};
 ghost use Rattle.method_fits.specs.Subtasks as spec;
 
-use crate::declared::is_declared;
 use crate::subtask::Subtask;
 use plan_model::{Child, Compiled, Head};
 use problem_index::World;
-use value_choices::bind_terms;
+use value_choices::{bind_terms, is_declared};
 
 /// Whether it is the check of a method's precondition.
 fn is_check(head: Head) -> bool
@@ -32,8 +32,8 @@ fn bind_child(
 ) -> bool
     requires world { IsWorldOf c.now world.now }
     requires no_check { child.now.head ≢ Check }
-    ensures { (m : ℕ) → Settles (λ values. (spec.work_of head objects.now ≡ child_of (spec.with_values m values) child.now)
-        × IsDeclared c.now (spec.work_of head objects.now)) known.old known.new result }
+    ensures { (m : ℕ) → Settles (λ values. (work_of head objects.now ≡ child_of (spec.with_values m values) child.now)
+        × IsDeclared c.now (work_of head objects.now)) known.old known.new result }
 {
     if child.head != head {
         return false;

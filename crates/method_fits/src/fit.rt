@@ -1,6 +1,6 @@
 ghost use Rattle.std.specs.Prelude.{ℕ, ◌≡◌, replicate, None, IfOk};
 ghost use Rattle.plan_model.specs.plan_meaning.Network.{task};
-ghost use Rattle.method_fits.specs.Worlds.{IsWorldOf};
+ghost use Rattle.value_choices.specs.Worlds.{IsWorldOf};
 ghost use Rattle.value_choices.specs.Settled.{Settles};
 ghost use Rattle.method_fits.specs.Subtasks.{said_works, IsSaid};
 ghost use Rattle.method_fits.specs.Fits as spec;

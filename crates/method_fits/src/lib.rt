@@ -6,7 +6,6 @@
 #![tactic(auto)]
 
 mod children;
-mod declared;
 mod fit;
 mod subtask;
 

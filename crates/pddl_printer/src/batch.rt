@@ -9,7 +9,7 @@ use text_forms::sheets::Sheet;
 const MOST_BYTES: usize = 1024;
 
 /// Bytes that wait to be put on a sheet together, since each put costs more than the copy of a few bytes.
-pub(crate) struct Batch {
+pub struct Batch {
     bytes: ArrayVec<u8, MOST_BYTES>,
 }
 
@@ -21,7 +21,7 @@ impl Drop for Batch {
 
 impl Batch {
     /// One in which nothing waits.
-    pub(crate) fn new() -> Batch
+    pub fn new() -> Batch
         ensures { result.bytes.items ≡ [] }
     {
         Batch {
@@ -31,7 +31,7 @@ impl Batch {
 
     /// Adds the bytes to those that wait. Where there is no room, all are put.
     #[inline(always)]
-    pub(crate) fn add(&mut self, bytes: &[u8], sheet: &mut Sheet<'_>)
+    pub fn add(&mut self, bytes: &[u8], sheet: &mut Sheet<'_>)
         ensures { Added bytes.now self.old self.new sheet.old sheet.new }
     {
         if self.bytes.try_extend_from_slice(bytes).is_err() {
@@ -42,7 +42,7 @@ impl Batch {
 
     /// Puts the bytes that wait. It is seldom wanted, and keeps out of the way of the rest.
     #[inline(never)]
-    pub(crate) fn put(&mut self, sheet: &mut Sheet<'_>)
+    pub fn put(&mut self, sheet: &mut Sheet<'_>)
         ensures empty { self.new.bytes.items ≡ [] }
         ensures wrote { Wrote self.old.bytes.items sheet.old sheet.new }
     {

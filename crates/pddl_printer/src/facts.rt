@@ -25,7 +25,7 @@ fn add_fact(p: &Pddl, fact: &Fact<'_>, batch: &mut Batch, sheet: &mut Sheet<'_>)
 }
 
 /// Puts facts, each behind a space.
-pub(crate) fn put_facts(p: &Pddl, facts: &Facts, sheet: &mut Sheet<'_>)
+pub fn put_facts(p: &Pddl, facts: &Facts, sheet: &mut Sheet<'_>)
     ensures { Wrote (of_each (fact_text p.now) facts.now) sheet.old sheet.new }
 {
     let mut batch = Batch::new();

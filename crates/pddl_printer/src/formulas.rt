@@ -9,7 +9,7 @@ use plan_model::{Formula, Param, Pddl, Scope};
 use text_forms::sheets::Sheet;
 
 /// Puts a formula behind a space.
-pub(crate) fn put_formula(p: &Pddl, scope: &Scope<'_>, formula: &Formula, sheet: &mut Sheet<'_>)
+pub fn put_formula(p: &Pddl, scope: &Scope<'_>, formula: &Formula, sheet: &mut Sheet<'_>)
     ensures { Wrote (formula_text p.now scope.now formula.now) sheet.old sheet.new }
 {
     let mut batch = Batch::new();
@@ -28,7 +28,7 @@ pub(crate) fn put_formulas(p: &Pddl, scope: &Scope<'_>, formulas: &[Formula], sh
 
 /// Adds a formula to a batch, behind a space.
 #[cycle(formulas)]
-pub(crate) fn add_formula(
+pub fn add_formula(
     p: &Pddl,
     scope: &Scope<'_>,
     formula: &Formula,

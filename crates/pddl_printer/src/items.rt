@@ -9,7 +9,7 @@ use plan_model::Pddl;
 use text_forms::sheets::Sheet;
 
 /// What may stand in a list.
-pub(crate) trait Item {
+pub trait Item {
     ghost text: { Pddl → Self → List ℕ };
 
     /// Adds the item to a batch, behind a space.
@@ -27,7 +27,7 @@ pub(crate) fn add_items<T: Item>(p: &Pddl, items: &[T], batch: &mut Batch, sheet
 }
 
 /// Puts the items, each behind a space.
-pub(crate) fn put_items<T: Item>(p: &Pddl, items: &[T], sheet: &mut Sheet<'_>)
+pub fn put_items<T: Item>(p: &Pddl, items: &[T], sheet: &mut Sheet<'_>)
     ensures { Wrote (of_each (T.text p.now) items.now) sheet.old sheet.new }
 {
     let mut batch = Batch::new();

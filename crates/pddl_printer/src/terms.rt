@@ -20,7 +20,7 @@ pub(crate) fn word_in_force<'a>(p: &'a Pddl, scope: &Scope<'_>, k: u32) -> &'a [
 }
 
 /// Adds a word with terms to a batch, behind a space, as `(= ?x ?y)`.
-pub(crate) fn add_applied(
+pub fn add_applied(
     p: &Pddl,
     scope: &Scope<'_>,
     word: &[u8],

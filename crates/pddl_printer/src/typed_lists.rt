@@ -49,7 +49,7 @@ impl Item for Param {
 }
 
 /// Adds a list of variables with their types to a batch, behind a space, with a space between two.
-pub(crate) fn add_variables(p: &Pddl, params: &[Param], batch: &mut Batch, sheet: &mut Sheet<'_>)
+pub fn add_variables(p: &Pddl, params: &[Param], batch: &mut Batch, sheet: &mut Sheet<'_>)
     ensures { Added (variables_text p.now params.now) batch.old batch.new sheet.old sheet.new }
 {
     batch.add(b" (", sheet);

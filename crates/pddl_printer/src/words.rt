@@ -7,7 +7,7 @@ use htn_base::Name;
 use plan_model::{Param, Pddl};
 
 /// The word of a name; of a number that no word has, the empty one.
-pub(crate) fn name_word(p: &Pddl, name: Name) -> &[u8]
+pub fn name_word(p: &Pddl, name: Name) -> &[u8]
     ensures { result.now ≡ named p.now.names name }
 {
     match p.names.text(name) {

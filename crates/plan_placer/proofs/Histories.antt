@@ -23,7 +23,7 @@ use Rattle.state_history.specs.Flips.{states}
 use Rattle.state_history.specs.Histories.{last, state_in, AreSame, IsTrueInGap, after_last}
 use Rattle.hplan_text.specs.declared.values.HLine.{HLine}
 use Rattle.hplan_text.specs.declared.values.HPlan.{HPlan}
-use Rattle.method_fits.specs.Worlds.{IsWorldOf}
+use Rattle.value_choices.specs.Worlds.{IsWorldOf}
 use Rattle.numbered_lines.specs.declared.lines.Said.{Said}
 use Rattle.placements.specs.Placement.{state_after}
 use Rattle.plan_placer.specs.Executed.{IsLabelOf, AreLabelsOf, HasStates, IsExecuted, IsStoppedAt, HasReached, HasMissed}

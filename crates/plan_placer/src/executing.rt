@@ -1,7 +1,7 @@
 ghost use Rattle.std.specs.Prelude.{List as Items, ◌≡◌, length, IfOk, IfErr};
 ghost use Rattle.plan_model.specs.task_networks.Tree.{Label};
 ghost use Rattle.plan_model.specs.plan_meaning.Network.{network};
-ghost use Rattle.method_fits.specs.Worlds.{IsWorldOf};
+ghost use Rattle.value_choices.specs.Worlds.{IsWorldOf};
 ghost use Rattle.plan_placer.specs.Executed as spec;
 
 use crate::place_error::PlaceError;

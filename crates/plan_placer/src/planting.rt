@@ -2,7 +2,7 @@ ghost use Rattle.std.specs.Prelude.{◌≡◌, ◌≤◌, ◌+◌, length, IfOk,
 ghost use Rattle.htn_base.specs.Limits.{most_lines};
 ghost use Rattle.hplan_text.specs.Printable.{IsSoundHPlan, IsPrintableHPlan};
 ghost use Rattle.plan_texts.specs.SoundlyCompiled.{IsSoundlyCompiled};
-ghost use Rattle.method_fits.specs.Worlds.{IsWorldOf};
+ghost use Rattle.value_choices.specs.Worlds.{IsWorldOf};
 ghost use Rattle.numbered_lines.specs.Numbered.{AreNumbered};
 ghost use Rattle.plan_trees.specs.PlanTrees.{IsPlanTree};
 ghost use Rattle.plan_placer.specs.Placing.{RefusesPlace};

@@ -2,7 +2,7 @@ ghost use Rattle.std.specs.Prelude.{◌≤◌, length, IfOk, IfErr};
 ghost use Rattle.htn_base.specs.Limits.{most_steps};
 ghost use Rattle.plan_texts.specs.SoundlyCompiled.{IsSoundlyCompiled};
 ghost use Rattle.kept_front.specs.Later.{AreAllLater};
-ghost use Rattle.method_fits.specs.Worlds.{IsWorldOf};
+ghost use Rattle.value_choices.specs.Worlds.{IsWorldOf};
 ghost use Rattle.state_history.specs.declared.history.History.{History as a_history};
 ghost use Rattle.plan_placer.specs.Scheduling as spec;
 

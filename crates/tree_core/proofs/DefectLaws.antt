@@ -5,7 +5,8 @@ use Rattle.plan_model.specs.task_networks.Tree.{used}
 use Rattle.tree_core.specs.declared.children.Children.{Children}
 use Rattle.tree_core.specs.Growths.{Growth, IsAt, IsAstray, IsDefect, missing, astray, under_leaf, repeated, left_out, IsUnjoined, AreJoined}
 use Rattle.tree_core.specs.Labels.{labels, Decomposition}
-use Rattle.tree_core.specs.Growing.{found, IsChild, AreChildren, IsFine, IsLeast, least_of}
+use Rattle.tree_core.specs.Rooms.{found}
+use Rattle.tree_core.specs.Growing.{IsChild, AreChildren, IsFine, IsLeast, least_of}
 use Rattle.tree_core.proofs.Gets.{get_some, get_within}
 
 module _ (gs : List (Growth labels)) where

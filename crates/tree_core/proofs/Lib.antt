@@ -10,6 +10,7 @@ pub mod Siblings
 pub mod Labelled
 pub mod Unjoined
 pub mod Pairs
+pub mod Rooms
 pub mod Noted
 pub mod DefectLaws
 pub mod Walking

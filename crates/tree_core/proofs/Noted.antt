@@ -1,10 +1,11 @@
 -- What is noted of the growths, one after another.
-use Rattle.std.proofs.Common.{ℕ, ◌≡◌, ◌+◌, ◌<◌, ◌≤◌, ◌⊎◌, inl, inr, List, Some, None, slice_get, ap, sym, subst, ◌∙◌, arith}
+use Rattle.std.proofs.Common.{ℕ, ◌≡◌, ◌+◌, ◌<◌, ◌≤◌, ◌⊎◌, inl, inr, List, Option, Some, None, slice_get, refl, ap, sym, subst, ◌∙◌, arith}
 use Rattle.std.proofs.lemmas.Bool.{cases_lt}
 use Rattle.tree_core.specs.declared.children.Children.{Children}
 use Rattle.tree_core.specs.Growths.{Growth, IsAt}
 use Rattle.tree_core.specs.Labels.{labels}
-use Rattle.tree_core.specs.Growing.{found, IsChild, AreNoted}
+use Rattle.tree_core.specs.Rooms.{found, IsNoted}
+use Rattle.tree_core.specs.Growing.{IsChild, AreNoted}
 
 module _ (gs : List (Growth labels)) where
   pub one_child : (x y i j k : ℕ) → IsChild gs x i k → IsChild gs y j k → (x ≡ y) × (i ≡ j)
@@ -19,6 +20,14 @@ module _ (gs : List (Growth labels)) where
     given = λ x i k e. absurd (let f = none x i in cc);
     first = λ x i k l e. absurd (let f = none x i in cc);
     all = λ x i k l. absurd (omega arith);
+  }
+
+  -- what is found alike is noted alike
+  noted_alike : (n : ℕ) (children more : Children) → ((x i : ℕ) → found more x i ≡ found children x i) → AreNoted gs n children → AreNoted gs n more
+  noted_alike n children more same a = record {
+    given = λ x i k e. a.given x i k (sym (same x i) ∙ e);
+    first = λ x i k l e. a.first x i k l (sym (same x i) ∙ e);
+    all = λ x i k l c e. a.all x i k l c (sym (same x i) ∙ e);
   }
 
   module _ (n : ℕ) (children : Children) (a : AreNoted gs n children) where
@@ -90,3 +99,11 @@ module _ (gs : List (Growth labels)) where
             let z : k ≡ n = omega arith in
             let (p, q) = one_child y x j i n (subst (IsChild gs y j) z c) at in
             d (sym p, sym q)
+
+    -- the next growth is noted, where it is the first
+    pub noted_next : (x i : ℕ) (more : Children) → IsChild gs x i n → IsNoted children more x i n → AreNoted gs (n + 1) more
+    noted_next x i more at m = by (found children x i) refl
+      where
+        by : (o : Option ℕ) → found children x i ≡ o → AreNoted gs (n + 1) more
+        by None e = noted_new x i more at e (m.fresh e)
+        by (Some k) e = noted_alike (n + 1) children more (m.again k e) (noted_again x i k at e)

@@ -5,7 +5,8 @@ use Rattle.plan_model.specs.task_networks.Preorder.{preorder}
 use Rattle.tree_core.specs.declared.children.Children.{Children}
 use Rattle.tree_core.specs.Growths.{Growth, IsAt, IsUnder, IsTreeOf}
 use Rattle.tree_core.specs.Labels.{labels}
-use Rattle.tree_core.specs.Growing.{found, IsChild, AreChildren, IsPlaced, EndsAt, IsNodeAt}
+use Rattle.tree_core.specs.Rooms.{found}
+use Rattle.tree_core.specs.Growing.{IsChild, AreChildren, IsPlaced, EndsAt, IsNodeAt}
 use Rattle.tree_core.proofs.Gets.{get_within, place_of}
 use Rattle.tree_core.proofs.GrowthLaws.{growth_at}
 use Rattle.tree_core.proofs.Joined.{under_parent, at_parent, root_at}

@@ -1,23 +1,13 @@
 -- How growths are joined, step by step: the children by parent and number, what is wrong with a growth, and the columns of the table.
 use Rattle.std.specs.Prelude.{ℕ, suc, ◌≡◌, ◌<◌, ◌≤◌, List, length, min, Option, Some, None, MatchOption, slice_get}
 use Rattle.std.specs.Option.{option_and_then}
-use Rattle.std.specs.Ordering.{nat_cmp, ordering_then}
-use Rattle.std.specs.declared.cmp.Ordering.{Ordering}
-use Rattle.std.specs.BTreeMap.{get}
 use Rattle.plan_model.specs.task_networks.Tree.{Tree, Address, used}
 use Rattle.plan_model.specs.task_networks.Preorder.{preorder}
 use Rattle.tree_core.specs.declared.children.Children.{Children}
+use Rattle.tree_core.specs.Rooms.{found}
 use Rattle.tree_core.specs.Tables.{Row, table}
 use Rattle.tree_core.specs.Growths.{Growth, IsAt, IsAstray, IsDefect, IsTreeOf}
 use Rattle.tree_core.specs.Labels.{labels, Decomposition}
-
--- places and child numbers, in their order
-abbrev pub pair_cmp : ℕ × ℕ → ℕ × ℕ → Ordering
-pair_cmp p q = ordering_then (nat_cmp p.0 q.0) (nat_cmp p.1 q.1)
-
--- what is noted of child i of growth x
-abbrev pub found : Children → ℕ → ℕ → Option ℕ
-found children x i = get pair_cmp children.places (x, i)
 
 module _ (growths : List (Growth labels)) where
   -- growth k has the parent x and the child number i

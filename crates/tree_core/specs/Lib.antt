@@ -4,5 +4,6 @@ pub mod Labels
 pub mod Nodes
 pub mod Runs
 pub mod LaidOut
+pub mod Rooms
 pub mod Growing
 pub mod Laws

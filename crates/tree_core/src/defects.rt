@@ -2,7 +2,8 @@ ghost use Rattle.std.specs.Prelude.{◌≡◌, ◌<◌, ◌≤◌, ◌↔◌, So
 ghost use Rattle.htn_base.specs.Limits.{most_steps};
 ghost use Rattle.plan_model.specs.task_networks.Tree.{used};
 ghost use Rattle.tree_core.specs.Labels.{growths_of, label_of, Decomposition};
-ghost use Rattle.tree_core.specs.Growing.{found, AreChildren, IsLeast, least_of};
+ghost use Rattle.tree_core.specs.Rooms.{found};
+ghost use Rattle.tree_core.specs.Growing.{AreChildren, IsLeast, least_of};
 
 use crate::children::Children;
 use crate::growth::Growth;

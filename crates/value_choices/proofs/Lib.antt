@@ -9,3 +9,4 @@ pub mod Comparing
 pub mod Known
 pub mod Settling
 pub mod Choosing
+pub mod TypedObjects

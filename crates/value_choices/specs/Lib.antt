@@ -2,3 +2,5 @@ pub mod Choices
 pub mod Meeting
 pub mod Settled
 pub mod Ranges
+pub mod Worlds
+pub mod DeclaredParams

@@ -3,16 +3,19 @@
 //!
 //! Stands on `plan_model` for types and objects, and on the world of `problem_index`. The contracts used above: `bind_terms` tells what
 //! is known of values when terms stand for objects, `Choice::first` chooses the first values, where there are some, `Choice::advance`
-//! goes on to the next ones, until there are no more, and `first_values` gives the first ones that meet constraints.
+//! goes on to the next ones, until there are no more, and `first_values` gives the first ones that meet constraints. `is_declared` tells
+//! whether objects are of the types that are declared for a task or an action.
 #![tactic(auto)]
 
 mod binding;
 mod choice;
 mod constraints;
+mod declared;
 mod meeting;
 mod range;
 
 pub use binding::bind_terms;
 pub use choice::Choice;
 pub use constraints::meets;
+pub use declared::is_declared;
 pub use meeting::first_values;

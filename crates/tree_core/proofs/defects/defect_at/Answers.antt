@@ -5,7 +5,8 @@ use Rattle.tree_core.specs.declared.children.Children.{Children}
 use Rattle.tree_core.specs.declared.growth.Growth as Grown
 use Rattle.tree_core.specs.Growths.{IsAstray}
 use Rattle.tree_core.specs.Labels.{label_of, growth_of, growths_of, Decomposition}
-use Rattle.tree_core.specs.Growing.{found, IsChild, AreChildren}
+use Rattle.tree_core.specs.Rooms.{found}
+use Rattle.tree_core.specs.Growing.{IsChild, AreChildren}
 use Rattle.tree_core.proofs.Gets.{get-map, get_within}
 use Rattle.tree_core.proofs.DefectLaws.{astray_here, left_out_here, wrong_here, fine_here, first_noted, repeated_here, of_task, under_leaf_here, none_of, some_of}
 use Rattle.tree_core.proofs.defects.defect_at.Goals as goal

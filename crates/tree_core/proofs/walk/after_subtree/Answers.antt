@@ -3,7 +3,8 @@ use Rattle.std.proofs.lemmas.List.{length-map}
 use Rattle.std.proofs.lemmas.Option.{get_or_from_slice_get}
 use Rattle.tree_core.specs.declared.growth.Growth as Grown
 use Rattle.tree_core.specs.Labels.{labels, growth_of, growths_of}
-use Rattle.tree_core.specs.Growing.{found, IsNodeAt}
+use Rattle.tree_core.specs.Rooms.{found}
+use Rattle.tree_core.specs.Growing.{IsNodeAt}
 use Rattle.tree_core.proofs.Gets.{get-map, get_some}
 use Rattle.tree_core.proofs.Built.{built}
 use Rattle.tree_core.proofs.Columns.{number_within}

