@@ -11,10 +11,13 @@
 //! effects, and on `indexmap` for rows that stand once.
 #![tactic(auto)]
 
+mod bounding;
 mod count;
 mod found;
 mod ground_error;
+mod grounded;
 mod in_force;
+mod in_order;
 mod laws;
 mod networks;
 mod reached;
@@ -22,6 +25,7 @@ mod relaxed;
 mod row_set;
 mod search;
 
+pub use bounding::ground_bound;
 pub use ground_error::{GroundEdge, GroundError};
 pub use laws::{
     finite_has_one_bound, finite_is_tail_recursive_or_not, forced_lists_grow,
