@@ -1,6 +1,6 @@
 -- A network whose methods and works are those of another one, one to one, but that works without subtasks may be taken together:
 -- what is reached of it, what its last children are, and what bounds it are the same.
-use Rattle.std.proofs.Common.{ℕ, suc, ◌≡◌, ◌≢◌, ◌+◌, ◌<◌, ◌≤◌, ◌⊎◌, ◌↔◌, inl, inr, List, [], ◌∷◌, length, Some, slice_get, refl, ap, sym, subst, ◌∙◌, arith}
+use Rattle.std.proofs.Common.{ℕ, suc, ◌≡◌, ◌≤◌, ◌⊎◌, ◌↔◌, inl, inr, List, [], ◌∷◌, length, Some, slice_get, refl, ap, sym, subst, ◌∙◌, arith}
 use Rattle.std.proofs.lemmas.Option.{slice_get_within}
 use Rattle.plan_model.specs.task_networks.Net.{Net, count}
 use Rattle.plan_model.specs.task_networks.Order.{Precedes, direct, through, IsLast}

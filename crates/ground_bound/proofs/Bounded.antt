@@ -1,12 +1,8 @@
 -- What is reached as a problem without parameters: its strata and its bound may be computed, and tell those of what is reached.
-use Rattle.std.proofs.Common.{ℕ, suc, ◌≡◌, ◌+◌, ◌<◌, ◌≤◌, ◌^◌, List, [], ◌∷◌, map, length, get_or, Some, slice_get, ap, sym, subst, ◌∙◌, Contains, arith}
-use Rattle.std.proofs.lemmas.List.{length-map}
+use Rattle.std.proofs.Common.{ℕ, ◌≡◌, ◌+◌, ◌<◌, ◌≤◌, List, [], ◌∷◌, map, length, get_or, Some, slice_get, ap, sym, subst, arith}
 use Rattle.std.proofs.lemmas.Slice.Zip.{AllZip-long}
-use Rattle.std.proofs.lemmas.Option.{slice_get-get_or, slice_get_within, get_or_from_slice_get, same_Some}
+use Rattle.std.proofs.lemmas.Option.{slice_get-get_or, slice_get_within, get_or_from_slice_get}
 use Rattle.htn_base.specs.Packed.{Row}
-use Rattle.plan_model.specs.declared.networks.Head.{Head}
-use Rattle.plan_model.specs.declared.networks.Head.TheVariants.{Task}
-use Rattle.plan_model.specs.declared.networks.Child.{Child}
 use Rattle.plan_model.specs.declared.networks.Pair.{Pair}
 use Rattle.plan_model.specs.declared.schemas.MethodPlan.{MethodPlan}
 use Rattle.plan_model.specs.declared.values.Compiled.{Compiled}
@@ -19,7 +15,6 @@ use Rattle.plan_texts.specs.SoundlyCompiled.{IsSoundlyCompiled}
 use Rattle.bound_calc.specs.declared.stratifier.edge.Edge as Declared
 use Rattle.bound_calc.specs.stratifier.Listed as Listed
 use Rattle.bound_calc.specs.stratifier.NamedCycle.{IsNamed}
-use Rattle.bound_calc.specs.stratifier.Links.{IsSubtask}
 use Rattle.bound_calc.specs.stratifier.Conditions.{IsNumbered, IsSmallMethod, IsSmallCompiled, IsOrdered, HaveNoCycle}
 use Rattle.bound_calc.specs.Lines.{HasLine, HaveLines}
 use Rattle.bound_calc.proofs.Ready as Ready

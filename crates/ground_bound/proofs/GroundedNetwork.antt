@@ -1,11 +1,10 @@
 -- What is reached as a compiled problem of schemas without parameters: its schemas' network is the ground network with the reached
 -- methods, but for names, so its strata, its named cycle and its bound are those of what is reached.
-use Rattle.std.proofs.Common.{ℕ, zero, suc, ◌≡◌, ◌-◌, ◌<◌, ◌≤◌, ◌⊎◌, ◌↔◌, inl, inr, List, [], ◌∷◌, ◌++◌, map, length, Option, Some, None, slice_get, refl, ap, sym, subst, ◌∙◌, Contains, arith}
+use Rattle.std.proofs.Common.{ℕ, suc, ◌≡◌, ◌↔◌, inl, inr, List, [], ◌∷◌, ◌++◌, map, length, Option, Some, None, slice_get, refl, ap, sym, subst, ◌∙◌, Contains, arith}
 use Rattle.std.specs.Option.{option_map}
 use Rattle.std.proofs.lemmas.List.{length-map}
 use Rattle.std.proofs.lemmas.List.Elements.{Contains-append_left, Contains-append_right}
 use Rattle.std.proofs.lemmas.Option.{slice_get-map, slice_get_within, same_Some}
-use Rattle.std.specs.List.{AllZip}
 use Rattle.std.proofs.lemmas.Slice.Zip.{AllZip-long}
 use Rattle.htn_base.specs.Different.{AreDifferent}
 use Rattle.htn_base.specs.Packed.{Row, row_of}
@@ -17,15 +16,15 @@ use Rattle.plan_model.specs.declared.values.Compiled.{Compiled}
 use Rattle.plan_model.specs.Pairs.{Pairs}
 use Rattle.plan_model.specs.task_networks.Net.{Net, count}
 use Rattle.plan_model.specs.task_networks.Order.{IsLine}
-use Rattle.plan_model.specs.task_networks.Bound.{AreBlocks, IsReached, as_child}
+use Rattle.plan_model.specs.task_networks.Bound.{AreBlocks, IsReached}
 use Rattle.plan_model.specs.task_networks.Strata as Walks
-use Rattle.plan_model.specs.plan_meaning.Network.{Work, GroundMethod, IsPrimitive, network, child_of, decomposed, top_task}
+use Rattle.plan_model.specs.plan_meaning.Network.{Work, GroundMethod, IsPrimitive, child_of, top_task}
 use Rattle.plan_model.specs.plan_meaning.Solution.{top_work}
 use Rattle.plan_model.specs.plan_meaning.Schemas.{Schema, action, check, task, schemas, schema_of}
 use Rattle.plan_model.specs.plan_meaning.Schemas as OfSchemas
 use Rattle.plan_model.specs.plan_meaning.Strata as Strata
 use Rattle.plan_model.specs.plan_meaning.Bound.{group_of, IsBound}
-use Rattle.plan_model.proofs.task_networks.Lists.{not-in_empty, head_or_tail, Contains-here, Contains-later}
+use Rattle.plan_model.proofs.task_networks.Lists.{Contains-here, Contains-later}
 use Rattle.plan_model.proofs.task_networks.ScheduleLaws.{line_is_the_only_one}
 use Rattle.plan_model.proofs.plan_meaning.Pairs.{map_to}
 use Rattle.plan_model.proofs.plan_meaning.CompiledNetworks.{plan_of}
@@ -40,7 +39,7 @@ use Rattle.ground_bound.specs.NetworkBound.{IsBoundOf}
 use Rattle.ground_bound.specs.Finite.{IsFinite}
 use Rattle.ground_bound.specs.Reached.{over}
 use Rattle.ground_bound.specs.GroundBound.{IsBefore, IsGroundBound, IsGroundCycle}
-use Rattle.ground_bound.specs.Search.{method_of, methods_of, task_of, action_of, works_of, AreTheReached}
+use Rattle.ground_bound.specs.Search.{method_of, methods_of, task_of, action_of, AreTheReached}
 use Rattle.ground_bound.specs.Grounded.{AreInOrder, method_at, ground_edge, place_of, StandsFor, StandsForChild, IsGroundedMethod, IsGroundedRow, IsGrounded}
 use Rattle.ground_bound.proofs.Checks.{to_map}
 use Rattle.ground_bound.proofs.Searching.{place}

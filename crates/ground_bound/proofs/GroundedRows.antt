@@ -1,5 +1,5 @@
 -- The plan of a ground method in a list.
-use Rattle.std.proofs.Common.{ℕ, ◌≡◌, List, map, Some, slice_get, sym, subst, ◌∙◌, Contains}
+use Rattle.std.proofs.Common.{ℕ, ◌≡◌, List, map, Some, slice_get, sym, subst, ◌∙◌}
 use Rattle.std.proofs.lemmas.Option.{same_Some}
 use Rattle.htn_base.specs.Packed.{Row}
 use Rattle.plan_model.specs.declared.schemas.MethodPlan.{MethodPlan}

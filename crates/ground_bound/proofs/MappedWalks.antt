@@ -1,5 +1,5 @@
 -- Edges that are mapped one to one: what is a walk, a bad cycle, or the named one of the edges is one of their images, and no other is.
-use Rattle.std.proofs.Common.{◌≡◌, ◌≤◌, ◌↔◌, ◌⊎◌, inl, inr, List, [], ◌∷◌, ◌++◌, map, length, refl, ap, sym, subst, ◌∙◌, Contains, arith}
+use Rattle.std.proofs.Common.{◌≡◌, ◌↔◌, ◌⊎◌, inl, inr, List, [], ◌∷◌, ◌++◌, map, length, refl, ap, sym, subst, ◌∙◌, Contains, arith}
 use Rattle.std.proofs.lemmas.List.{length-map, map-append}
 use Rattle.std.proofs.lemmas.List.Elements.{Contains-append_left}
 use Rattle.plan_model.specs.task_networks.Strata.{IsWalk, Reaches, IsOneGroup, IsBadCycle, IsTailRecursive, IsNamedCycle, ComesFirst}

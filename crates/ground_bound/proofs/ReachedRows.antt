@@ -1,12 +1,10 @@
 -- Of what is reached: the head and the subtasks of each method are listed, and the rows are as many as may be.
-use Rattle.std.proofs.Common.{ℕ, ◌≡◌, ◌+◌, ◌≤◌, ◌∷◌, inl, inr, List, [], ◌++◌, map, length, Option, Some, slice_get, refl, ap, sym, subst, ◌∙◌, Contains, arith}
+use Rattle.std.proofs.Common.{ℕ, ◌≡◌, ◌+◌, ◌≤◌, inl, inr, List, map, length, Some, slice_get, refl, ap, sym, subst, ◌∙◌, Contains, arith}
 use Rattle.std.specs.Option.{option_map}
 use Rattle.std.proofs.lemmas.List.{length-append, length-map}
 use Rattle.std.proofs.lemmas.List.Elements.{Contains-append_cases}
 use Rattle.std.proofs.lemmas.Option.{slice_get-map}
 use Rattle.htn_base.specs.Packed.{Row, row_of}
-use Rattle.plan_model.specs.declared.networks.Child.{Child}
-use Rattle.plan_model.specs.declared.schemas.MethodPlan.{MethodPlan}
 use Rattle.plan_model.specs.declared.values.Compiled.{Compiled}
 use Rattle.plan_model.specs.task_networks.Bound.{as_child}
 use Rattle.plan_model.specs.plan_meaning.Network.{Work, action, check, task, GroundMethod, IsGroundMethod, network, child_of, decomposed}
@@ -19,7 +17,7 @@ use Rattle.ground_bound.specs.Reached.{over, IsReachedBy, AreClosed, IsSize}
 use Rattle.ground_bound.specs.GroundBound.{IsBefore}
 use Rattle.ground_bound.specs.NoGroundBound.{IsAtMost}
 use Rattle.ground_bound.specs.Search.{method_of, methods_of, task_of, action_of, works_of, AreTheReached}
-use Rattle.ground_bound.specs.Grounded.{IsListedTask, HasListedTasks, HaveListedTasks}
+use Rattle.ground_bound.specs.Grounded.{IsListedTask, HaveListedTasks}
 use Rattle.ground_bound.proofs.Checks.{to_map}
 use Rattle.ground_bound.proofs.FiniteEdges.{keep, keep_to, to_keep, reached_or_not}
 use Rattle.ground_bound.proofs.GroundNetwork.{finite}

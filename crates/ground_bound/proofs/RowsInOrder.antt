@@ -1,5 +1,5 @@
 -- Rows of ground methods that were sorted by their numbers and objects.
-use Rattle.std.proofs.Common.{ℕ, zero, suc, ◌≡◌, ◌+◌, ◌<◌, ◌≤◌, ◌⊎◌, inl, inr, List, [], ◌∷◌, ◌++◌, map, length, take, get_or, Some, slice_get, Bool, true, false, Ordering, refl, ap, sym, subst, ◌∙◌, Contains, arith}
+use Rattle.std.proofs.Common.{ℕ, zero, suc, ◌≡◌, ◌+◌, ◌<◌, ◌⊎◌, inl, inr, List, [], ◌∷◌, ◌++◌, map, length, take, get_or, Some, slice_get, true, Ordering, refl, ap, sym, subst, ◌∙◌, Contains, arith}
 use Rattle.std.specs.List.Sorted.{IsSorted, IsPermutation}
 use Rattle.std.specs.Ordering.{nat_cmp, ordering_then, is_lt}
 use Rattle.std.specs.Cmp.Lexicographic.{slice_cmp}
@@ -12,9 +12,8 @@ use Rattle.htn_base.specs.Different.{AreDifferent}
 use Rattle.htn_base.specs.Packed.{Row, row_of}
 use Rattle.plan_model.specs.declared.values.Compiled.{Compiled}
 use Rattle.plan_model.specs.plan_meaning.Network.{GroundMethod, IsGroundMethod}
-use Rattle.plan_model.specs.plan_meaning.Solution.{top_work}
 use Rattle.plan_model.proofs.task_networks.Different.{no_more}
-use Rattle.plan_model.proofs.task_networks.Lists.{head_or_tail, cut_at, Contains-here, Contains-later}
+use Rattle.plan_model.proofs.task_networks.Lists.{head_or_tail, Contains-here, Contains-later}
 use Rattle.plan_model.proofs.plan_meaning.BoundParts.{there_at}
 use Rattle.plan_model.proofs.plan_meaning.Pairs.{map_to}
 use Rattle.plan_texts.specs.SoundlyCompiled.{IsSoundlyCompiled}

@@ -1,6 +1,6 @@
 -- What is reached as a problem without parameters, with its ground methods; its bound, or why it has none.
 -- Source: this project's.
-use Rattle.std.specs.Prelude.{ℕ, ◌≡◌, ◌≤◌, ◌^◌, List, [], map, length, slice_get, Some}
+use Rattle.std.specs.Prelude.{ℕ, ◌≡◌, ◌≤◌, ◌^◌, List, [], map, slice_get, Some}
 use Rattle.htn_base.specs.Packed.{Row, row_of}
 use Rattle.plan_model.specs.declared.values.Compiled.{Compiled}
 use Rattle.plan_model.specs.plan_meaning.Network.{top_task}

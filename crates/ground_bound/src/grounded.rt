@@ -216,7 +216,7 @@ fn objects_at(alloc: Global, values: &[u32], terms: &[Term]) -> Result<Vec<u32>,
     Ok(objects)
 }
 
-fn object_at(values: &[u32], term: Term) -> u32
+pub(crate) fn object_at(values: &[u32], term: Term) -> u32
     ensures { result ≡ value_of values.now term }
 {
     match term {

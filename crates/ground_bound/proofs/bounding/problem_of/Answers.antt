@@ -1,6 +1,6 @@
 use Rattle.std.proofs.Common.{◌+◌, ◌≤◌, List, map, length, subst, Contains, arith}
 use Rattle.ground_bound.specs.NoGroundBound.{most_reached}
-use Rattle.ground_bound.specs.Grounded.{AreInOrder, IsGrounded}
+use Rattle.ground_bound.specs.Grounded.{IsGrounded}
 use Rattle.ground_bound.specs.MethodRows.{row}
 use Rattle.ground_bound.specs.declared.in_order.MethodRow.{MethodRow}
 use Rattle.ground_bound.proofs.ReachedRows.{have_listed_tasks, rows_few}

@@ -1,13 +1,11 @@
-use Rattle.std.proofs.Common.{◌≡◌, ◌<◌, ◌≤◌, Bor, Some, None, slice_get, length, map, take_all, ap, sym, ◌∙◌, arith}
+use Rattle.std.proofs.Common.{◌≡◌, ◌<◌, ◌≤◌, Bor, Some, None, slice_get, length, take_all, ap, sym, ◌∙◌, arith}
 use Rattle.std.specs.Option.{option_map}
 use Rattle.htn_base.specs.Packed.{row_of}
 use Rattle.plan_model.proofs.plan_meaning.BoundParts.{there_at}
 use Rattle.ground_bound.specs.Rows as Rows
 use Rattle.ground_bound.specs.declared.row_set.Numbered.{Numbered}
-use Rattle.ground_bound.specs.MethodRows.{row}
 use Rattle.ground_bound.proofs.ReachedRows.{are_ground}
 use Rattle.ground_bound.proofs.RowsInOrder.{sorted_in_order, different_rows, copied_next}
-use Rattle.ground_bound.proofs.GroundedNetwork.{grounded_bound}
 use Rattle.ground_bound.proofs.in_order.in_order.Goals as goal
 
 pub returns : goal.returns
