@@ -1,6 +1,5 @@
 -- Two compiled values of the same texts tell a cycle of ground edges in the same words.
-use Rattle.std.proofs.Common.{ℕ, ◌≡◌, ◌++◌, List, [], ◌∷◌, codes, Option, Some, None, slice_get, refl, ap, ◌∙◌}
-use Rattle.std.specs.List.{flat_map}
+use Rattle.std.proofs.Common.{ℕ, ◌≡◌, ◌++◌, List, [], ◌∷◌, codes, map, Option, Some, None, slice_get, refl, ap, ◌∙◌}
 use Rattle.plan_model.specs.declared.types.Object.{Object}
 use Rattle.plan_model.specs.declared.schemas.TaskSchema.{TaskSchema}
 use Rattle.plan_model.specs.declared.schemas.MethodPlan.{MethodPlan}
@@ -8,8 +7,10 @@ use Rattle.plan_model.specs.declared.values.Compiled.{Compiled}
 use Rattle.plan_model.specs.plan_meaning.Network.{Work, action, check, task, GroundMethod, network}
 use Rattle.decode_answers.proofs.AlikeValues.{StandTogether, SamePlan, SameTask, SameObject, AreTwins, plan_place, task_place, object_place}
 use Rattle.decode_answers.proofs.AlikeReaders.{head_same, works_same}
+use Rattle.bound_calc.specs.stratifier.CycleWords.{task_by, method_by, method_word}
+use Rattle.bound_calc.specs.NoBound.{spaced}
 use Rattle.ground_bound.specs.NetworkEdges.{Edge, source, target_by, target}
-use Rattle.ground_bound.specs.GroundCycleWords.{object_by, object_word, task_by, task_word, method_by, method_word, ground_cycle_words}
+use Rattle.ground_bound.specs.GroundCycleWords.{object_by, object_word, ground_task_word, ground_cycle_words}
 
 module _ (c d : Compiled) (t : AreTwins c d) where
   object_same : (o : ℕ) → object_word c o ≡ object_word d o
@@ -39,21 +40,21 @@ module _ (c d : Compiled) (t : AreTwins c d) where
       go None (Some q) r = absurd r
       go (Some p) None r = absurd r
 
-  work_same : (w : Work) → task_word c w ≡ task_word d w
-  work_same (task k args) = let e = task_same k in λ i. codes "(" ++ e i ++ flat_map (λ o. codes " " ++ object_same o i) args ++ codes ")"
+  work_same : (w : Work) → ground_task_word c w ≡ ground_task_word d w
+  work_same (task k args) = let e = task_same k in λ i. codes "(" ++ e i ++ spaced (map (λ o. object_same o i) args) ++ codes ")"
   work_same (action a args) = refl
   work_same (check m values) = refl
 
-  source_same : (e : Edge GroundMethod) → task_word c (source (network c) e) ≡ task_word d (source (network d) e)
-  source_same e = ap (task_word c) (head_same c d t e.method) ∙ work_same (source (network d) e)
+  source_same : (e : Edge GroundMethod) → ground_task_word c (source (network c) e) ≡ ground_task_word d (source (network d) e)
+  source_same e = ap (ground_task_word c) (head_same c d t e.method) ∙ work_same (source (network d) e)
 
-  target_same : (e : Edge GroundMethod) → task_word c (target (network c) e) ≡ task_word d (target (network d) e)
+  target_same : (e : Edge GroundMethod) → ground_task_word c (target (network c) e) ≡ ground_task_word d (target (network d) e)
   target_same e =
-      ap (λ z. task_word c (target_by (network c) z (slice_get ((network c).works e.method) e.child))) (head_same c d t e.method)
-      ∙ ap (λ z. task_word c (target_by (network c) (source (network d) e) (slice_get z e.child))) (works_same c d t e.method)
+      ap (λ z. ground_task_word c (target_by (network c) z (slice_get ((network c).works e.method) e.child))) (head_same c d t e.method)
+      ∙ ap (λ z. ground_task_word c (target_by (network c) (source (network d) e) (slice_get z e.child))) (works_same c d t e.method)
       ∙ either (slice_get ((network d).works e.method) e.child)
     where
-      either : (o : Option Work) → task_word c (target_by (network c) (source (network d) e) o) ≡ task_word d (target_by (network d) (source (network d) e) o)
+      either : (o : Option Work) → ground_task_word c (target_by (network c) (source (network d) e) o) ≡ ground_task_word d (target_by (network d) (source (network d) e) o)
       either None = work_same (source (network d) e)
       either (Some w) = work_same w
 
