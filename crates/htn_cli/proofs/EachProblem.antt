@@ -73,13 +73,15 @@ module _ (d p : List ℕ) (checks : Checks) (c : Compiled) (source : SpellProble
     -- and the same named cycle
     pub cycle_of_each : (level : Level) (words : List ℕ) → NamesCycleAt level c words → (err err' : SinkState)
         → Told (line_of (refused.Finding (finding.NotTailRecursive words))) err err' → TellsCycle level checks d p err err'
-    cycle_of_each Lifted words (edges, named, is) err err' told h k s compiled =
+    cycle_of_each Lifted words (edges, named, is) err err' told = λ h k s compiled. (
         let line = is ∙ ap spaced (sym (words_same k c (graph h k s compiled) edges)) in
         (edges, named_back k c (graph h k s compiled) edges named, subst (λ z. told_by z err err') line told)
-    cycle_of_each Ground words (few, (e, walk, named, is)) err err' told h k s compiled =
+        )
+    cycle_of_each Ground words (few, (e, walk, named, is)) err err' told = λ h k s compiled. (
         let same = ground h k s compiled in
         let line = is ∙ ap spaced (same.words (e ∷ walk)) in
         (e, walk, same.cycle e walk named, subst (λ z. told_by z err err') line told)
+        )
 
   -- two texts that are printed for one of them have the meaning of each
   pub faithful_of_each : (slots : ℕ) (style : Style) (value : Pddl) (h : Hddl) (k : Compiled) → IsHddlOf d p h → IsPrinted h checks k slots style value

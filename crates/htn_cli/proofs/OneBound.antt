@@ -63,7 +63,7 @@ module _ (alike : ValuesHaveOneGroundBound) (request : BoundRequest) (d p : List
 
   declines : (refusal : Refusal) → RefusesBound request d p refusal → (x : Source) × Follows x (refuses refusal)
   declines (refused.Finding (finding.NotTailRecursive words)) (c, source, named) = ((c, source), cycle words named)
-  declines (refused.Limit limit.Ground) (c, source, past) = ((c, source), many past)
+  declines (refused.Limit limit.Ground) (c, source, much) = ((c, source), many much)
   declines (refused.Limit limit.Bound) (n, (c, source, bound), l) = ((c, source), past n bound l)
   declines _ x = absurd x
 
