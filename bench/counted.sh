@@ -3,7 +3,7 @@
 # actions at one slot; the smallest problem at 65,536 slots in style adl; 54 actions at 65,536 slots in style flat; Transport with
 # 2,000 packages at 4,096 slots; 500 methods of 40 subtasks; 140,000 facts; and `validate` of 50,000 steps (bench/validate.sh has
 # the same with a million); `decode` of 25,000 uses of a tail-recursive method, and of the deliveries of 200 packages, and `encode` of
-# the trees of both; and `make 200`. Wants ./htn, as examples/transport/run leaves it, and valgrind. A line each: the instructions.
+# the trees of both; `make 200`; and `bound --level ground` of 100 packages, 10 vehicles and 30 places on a ring. Wants ./htn, as examples/transport/run leaves it, and valgrind. A line each: the instructions.
 #
 # Counted, in the order of the cases, millions: 19.7, 97.7, 754.8, 407.6, 303.0, 285.5, 215.4, `decode` 314.4, 24.5, `encode` 389.5, 34.9, and
 # `make 200` 37.8, of which 21 are the plan's place. Before steps were put on the sheet straight from slots and words `encode` took 470.6, 41.1.
@@ -129,3 +129,23 @@ counted "encode of 25,000 uses, 50,001 lines" encode "$work/uses_domain" "$work/
 "$top/htn" decode "$transport/domain.hddl" "$work/made" "$work/made_plan" --bound 204 >"$work/made_tree"
 counted "encode of 200 packages" encode "$transport/domain.hddl" "$work/made" "$work/made_tree"
 counted "make 200" make 200 "$work/od" "$work/op"
+
+{
+    echo "(define (problem ring) (:domain transport)"
+    echo " (:objects"
+    for ((k = 0; k < 30; k++)); do echo "  l$k"; done
+    echo "  - location"
+    for ((k = 0; k < 10; k++)); do echo "  v$k"; done
+    echo "  - vehicle"
+    for ((k = 0; k < 100; k++)); do echo "  p$k"; done
+    echo "  - package)"
+    echo " (:htn :parameters () :subtasks (and"
+    for ((k = 0; k < 100; k++)); do echo "  (deliver p$k l$((k % 30)))"; done
+    echo "  ))"
+    echo " (:init"
+    for ((k = 0; k < 30; k++)); do echo "  (road l$k l$(((k + 1) % 30))) (road l$(((k + 1) % 30)) l$k)"; done
+    for ((k = 0; k < 10; k++)); do echo "  (at v$k l$k)"; done
+    for ((k = 0; k < 100; k++)); do echo "  (at p$k l$((k * 7 % 30)))"; done
+    echo " ))"
+} >"$work/ring"
+counted "bound over what is reached, 300,000 ground methods" bound "$transport/domain.hddl" "$work/ring" --level ground

@@ -155,13 +155,13 @@ stops_within request output old new out out' calls also _ stops = absurd stops
 keeps_by : (laws : LawsUsed) (request : Request) (texts : List (List ℕ)) (output : Output) → Gives request texts output → (out out' : SinkState) → TakesWhole output.told out out' → Keeps request texts output.texts out out'
 keeps_by laws (to_translate r) (d ∷ p ∷ []) output (texts, slots, written, e) out out' told =
     subst (λ (z : Output). Keeps (to_translate r) (d ∷ p ∷ []) z.texts out out') (sym e)
-    (keeps r d p out out' texts slots written texts.domain texts.problem refl refl (subst (λ (z : Output). TakesWhole z.told out out') e told))
+    (keeps laws.ground r d p out out' texts slots written texts.domain texts.problem refl refl (subst (λ (z : Output). TakesWhole z.told out out') e told))
 keeps_by laws (to_bound r) (d ∷ p ∷ []) output (n, (c, source, bound), small, e) out out' told =
     subst (λ (z : Output). Keeps (to_bound r) (d ∷ p ∷ []) z.texts out out') (sym e)
-    (bound_here r d p out out' n c source bound (subst (λ (z : Output). TakesWhole z.told out out') e told))
+    (bound_here laws.ground r d p out out' n c source bound (subst (λ (z : Output). TakesWhole z.told out out') e told))
 keeps_by laws (to_decode r) (d ∷ p ∷ plan ∷ []) output (c, steps, slots, text, is, has, e) out out' told =
     subst (λ (z : Output). Keeps (to_decode r) (d ∷ p ∷ plan ∷ []) z.texts out out') (sym e)
-    (tree_here laws.decoded r d p plan c steps slots is text has out out' (subst (λ (z : Output). TakesWhole z.told out out') e told))
+    (tree_here laws.decoded laws.ground r d p plan c steps slots is text has out out' (subst (λ (z : Output). TakesWhole z.told out out') e told))
 keeps_by laws (to_encode r) (d ∷ p ∷ hplan ∷ []) output (c, plan, text, s, (width, steps, is, t), e) out out' told =
     subst (λ (z : Output). Keeps (to_encode r) (d ∷ p ∷ hplan ∷ []) z.texts out out') (sym e)
     (steps_here laws.encoded r d p hplan c plan s.spelled laws.decoded width steps is out out' (subst (λ z. TakesWhole z out out') t (subst (λ (z : Output). TakesWhole z.told out out') e told)))
@@ -171,7 +171,7 @@ keeps_by laws (to_validate r) (pd ∷ pp ∷ plan ∷ []) output (are, e) out ou
 keeps_by laws (to_make r) [] output (texts, actions, bound, width, steps, are, e) out out' told =
     subst (λ (z : Output). Keeps (to_make r) [] z.texts out out') (sym e)
     (keeps_made laws r out out' texts actions bound width steps are texts.domain texts.problem refl refl
-    (keep_here (translation_for r) made_domain (problem_of r) out out' texts bound are.written texts.domain texts.problem refl refl)
+    (keep_here laws.ground (translation_for r) made_domain (problem_of r) out out' texts bound are.written texts.domain texts.problem refl refl)
     (subst (λ (z : Output). TakesWhole z.told out out') e told))
 keeps_by laws _ _ output x out out' told = absurd x
 

@@ -5,13 +5,14 @@ use Rattle.hddl_reader.specs.declared.sections.Language.TheVariants as language
 use Rattle.text_values.specs.TextFaults.{IsLeastFault}
 use Rattle.plan_model.specs.declared.steps.GroundAction.{GroundAction}
 use Rattle.plan_model.specs.declared.values.Compiled.{Compiled}
-use Rattle.plan_model.specs.plan_meaning.Bound.{IsBound}
 use Rattle.plan_text.specs.Plans.{IsPlanRead}
+use Rattle.command_words.specs.declared.level.Level.{Level}
 use Rattle.command_words.specs.Names.{Word}
 use Rattle.command_words.specs.Words.{DecodeRequest, to_decode}
 use Rattle.htn_cli.specs.Answer.{told_alone}
 use Rattle.htn_cli.specs.Decoding.{SpellSteps, SpellFewSteps, IsForSlots, GivesTree}
 use Rattle.htn_cli.specs.LeastFaults.{IsLeastWithPlan, of_problem, of_third}
+use Rattle.htn_cli.specs.Levels.{IsBoundAt}
 use Rattle.htn_cli.specs.Problem.{SpellProblem}
 use Rattle.htn_cli.specs.Requests.{inputs_of}
 use Rattle.htn_cli.specs.Slots.{RefusesSlots}
@@ -31,9 +32,9 @@ given_in_range numeral None is = tt
 given_in_range None (Some slots) is = absurd is
 given_in_range (Some word) (Some slots) is = (is.some, is.few)
 
-pub chosen_in_range : (c : Compiled) (given : Option ℕ) → IfSome given IsInRange → (slots : ℕ) → IsChosen c given slots → IsInRange slots
-chosen_in_range c None inside slots (n, bound, are) = (are.some, are.few)
-chosen_in_range c (Some n) inside slots e = subst IsInRange (sym e) inside
+pub chosen_in_range : (level : Level) (c : Compiled) (given : Option ℕ) → IfSome given IsInRange → (slots : ℕ) → IsChosen level c given slots → IsInRange slots
+chosen_in_range level c None inside slots (n, bound, are) = (are.some, are.few)
+chosen_in_range level c (Some n) inside slots e = subst IsInRange (sym e) inside
 
 -- the third is one of three files
 pub third_of_three : (plan : List ℕ) (file code at : ℕ) → IsFaultOfThird plan file code at → file < 3
@@ -80,37 +81,38 @@ module _ (r : DecodeRequest) (d p plan : List ℕ) where
         spell_few : SpellFewSteps r d p plan c steps
         spell_few = record { spelled = spell; few = few }
 
-        bound_stops : r.numeral ≡ None → (refusal : Refusal) → StopsBound c refusal → Stopped refusal
+        bound_stops : r.numeral ≡ None → (refusal : Refusal) → StopsBound r.level c refusal → Stopped refusal
         bound_stops none (refused.Finding (finding.NotTailRecursive words)) stops = inr (none, (c, steps, spell_few, stops))
+        bound_stops none (refused.Limit limit.Ground) stops = inr (none, (c, steps, spell_few, stops))
         bound_stops none (refused.Limit limit.Bound) (n, bound, past) = inr (none, (c, steps, n, spell_few, bound, past))
         bound_stops none (refused.Failure failure.Memory) stops = tt
         bound_stops none _ stops = absurd stops
 
-        computed_past : r.numeral ≡ None → (n : ℕ) → IsBound c n → (refusal : Refusal) → RefusesSlots most_slots n refusal → Stopped refusal
+        computed_past : r.numeral ≡ None → (n : ℕ) → IsBoundAt r.level c n → (refusal : Refusal) → RefusesSlots most_slots n refusal → Stopped refusal
         computed_past none n bound (refused.Limit limit.Bound) stops = inr (none, (c, steps, n, spell_few, bound, stops))
         computed_past none n bound (refused.Limit (limit.Slots m)) stops = inr (none, (c, steps, n, spell_few, bound, stops))
         computed_past none n bound _ stops = absurd stops
 
-        chosen_stops : (refusal : Refusal) → StopsChosen c g refusal → Stopped refusal
+        chosen_stops : (refusal : Refusal) → StopsChosen r.level c g refusal → Stopped refusal
         chosen_stops refusal stops = go r.numeral g is stops refl
           where
-            go : (o : Option Word) (g : Option ℕ) → IsGiven o g → StopsChosen c g refusal → r.numeral ≡ o → Stopped refusal
+            go : (o : Option Word) (g : Option ℕ) → IsGiven o g → StopsChosen r.level c g refusal → r.numeral ≡ o → Stopped refusal
             go o (Some g) is stops e = absurd stops
             go (Some word) None is stops e = absurd is
             go None None is (inl stops) e = bound_stops e refusal stops
             go None None is (inr (n, bound, stops)) e = computed_past e n bound refusal stops
 
-        module _ (slots : ℕ) (chosen : IsChosen c g slots) where
+        module _ (slots : ℕ) (chosen : IsChosen r.level c g slots) where
           for_slots : IsForSlots r d p plan c steps slots
           for_slots = go r.numeral g is chosen refl
             where
-              go : (o : Option Word) (g : Option ℕ) → IsGiven o g → IsChosen c g slots → r.numeral ≡ o → IsForSlots r d p plan c steps slots
+              go : (o : Option Word) (g : Option ℕ) → IsGiven o g → IsChosen r.level c g slots → r.numeral ≡ o → IsForSlots r d p plan c steps slots
               go None None is (n, bound, are) e =
-                  record { spelled = spell_few; slots_are = subst (λ z. AreSlotsOf c z slots) (sym e) (subst (IsBound c) (sym are.same) bound); some_slot = are.some; few_slots = are.few }
+                  record { spelled = spell_few; slots_are = subst (λ z. AreSlotsOf r.level c z slots) (sym e) (subst (IsBoundAt r.level c) (sym are.same) bound); some_slot = are.some; few_slots = are.few }
               go None (Some g) is chosen e = absurd is
               go (Some word) None is chosen e = absurd is
               go (Some word) (Some g) is chosen e =
-                  record { spelled = spell_few; slots_are = subst (λ z. AreSlotsOf c z slots) (sym e) (chosen ∙ is.same); some_slot = subst (λ z. 1 ≤ z) (sym chosen) is.some; few_slots = subst (λ z. z ≤ most_slots) (sym chosen) is.few }
+                  record { spelled = spell_few; slots_are = subst (λ z. AreSlotsOf r.level c z slots) (sym e) (chosen ∙ is.same); some_slot = subst (λ z. 1 ≤ z) (sym chosen) is.some; few_slots = subst (λ z. z ≤ most_slots) (sym chosen) is.few }
 
           with_stops : (refusal : Refusal) → StopsTreeWith c slots steps refusal → Stopped refusal
           with_stops (refused.Finding (finding.SpellsNoSolution step why)) fails = inr (c, steps, slots, for_slots, fails)
@@ -118,19 +120,19 @@ module _ (r : DecodeRequest) (d p plan : List ℕ) where
           with_stops (refused.Failure failure.Memory) stops = tt
           with_stops _ stops = absurd stops
 
-      tree_stops : (refusal : Refusal) → StopsTree c g steps refusal → Stopped refusal
+      tree_stops : (refusal : Refusal) → StopsTree r.level c g steps refusal → Stopped refusal
       tree_stops refusal (inl stops) = steps_stop refusal stops
       tree_stops refusal (inr (few, inl stops)) = chosen_stops few refusal stops
       tree_stops refusal (inr (few, inr (slots, chosen, stops))) = with_stops few slots chosen refusal stops
 
     -- the third has a fault, or its steps give no text
-    pub telling_stops : (refusal : Refusal) → StopsTelling c g (inputs_of (to_decode r)) plan refusal → Stopped refusal
+    pub telling_stops : (refusal : Refusal) → StopsTelling r.level c g (inputs_of (to_decode r)) plan refusal → Stopped refusal
     telling_stops refusal (inl stops) = third_stops refusal stops
     telling_stops refusal (inr (steps, read, stops)) = tree_stops steps read refusal stops
 
     -- what is told
-    pub gives_tree : (text : List ℕ) → IsToldFor c g plan text → GivesTree r d p plan (told_alone text)
+    pub gives_tree : (text : List ℕ) → IsToldFor r.level c g plan text → GivesTree r d p plan (told_alone text)
     gives_tree text (steps, read, (slots, few, chosen, have, short)) = (c, steps, slots, text, for_slots steps read few slots chosen, have, refl)
 
-    pub tree_fits : (text : List ℕ) → IsToldFor c g plan text → length text ≤ longest_output
+    pub tree_fits : (text : List ℕ) → IsToldFor r.level c g plan text → length text ≤ longest_output
     tree_fits text (steps, read, (slots, few, chosen, have, short)) = short

@@ -1,5 +1,5 @@
 -- What the problem of two texts is, each problem that they spell is: they have one bound, one named cycle and one meaning of lists.
-use Rattle.std.proofs.Common.{ℕ, ◌≡◌, ◌≤◌, ◌++◌, List, Option, Some, None, IfSome, codes, sym, ap, ◌∙◌, subst}
+use Rattle.std.proofs.Common.{ℕ, ◌≡◌, ◌≤◌, ◌++◌, ◌∷◌, List, Option, Some, None, IfSome, codes, sym, ap, ◌∙◌, subst}
 use Rattle.htn_base.specs.Limits.{most_slots}
 use Rattle.outside_io.specs.Sink.{SinkState}
 use Rattle.plan_model.specs.declared.options.Checks.{Checks}
@@ -21,9 +21,14 @@ use Rattle.plan_proof.specs.Headline.{Headline, SpellsSolution}
 use Rattle.plan_proof.specs.OneGraph.{HaveOneGraph}
 use Rattle.plan_proof.proofs.one.OneGraph.{one_graph}
 use Rattle.plan_proof.proofs.values.Headlines.{printed_too, headline_of}
-use Rattle.bound_calc.specs.NoBound.{NamesCycle, spaced}
+use Rattle.bound_calc.specs.NoBound.{spaced}
+use Rattle.ground_bound.specs.NoGroundBound.{most_reached, IsAtMost}
+use Rattle.ground_answers.specs.GroundLaws.{AreGroundAlike, ValuesHaveOneGroundBound}
+use Rattle.command_words.specs.declared.level.Level.{Level}
+use Rattle.command_words.specs.declared.level.Level.TheVariants.{Lifted, Ground}
 use Rattle.command_words.specs.Names.{Word}
 use Rattle.command_words.specs.Words.{number_of}
+use Rattle.htn_cli.specs.Levels.{IsBoundAt, NamesCycleAt}
 use Rattle.htn_cli.specs.Problem.{SpellProblem}
 use Rattle.htn_cli.specs.Refusal.{line_of}
 use Rattle.htn_cli.specs.Sent.{Told}
@@ -35,12 +40,12 @@ use Rattle.htn_cli.proofs.SameCycles.{named_back, words_same}
 use Rattle.htn_cli.proofs.SomeCounts.{countable}
 
 -- the number of slots is the given one, or else the bound
-pub slots_given : (c : Compiled) (slots : ℕ) (o : Option Word) → AreSlotsOf c o slots → IfSome o (λ numeral. slots ≡ number_of numeral)
-slots_given c slots None are = tt
-slots_given c slots (Some numeral) are = are
+pub slots_given : (level : Level) (c : Compiled) (slots : ℕ) (o : Option Word) → AreSlotsOf level c o slots → IfSome o (λ numeral. slots ≡ number_of numeral)
+slots_given level c slots None are = tt
+slots_given level c slots (Some numeral) are = are
 
-pub slots_computed : (c : Compiled) (slots : ℕ) (o : Option Word) → o ≡ None → AreSlotsOf c o slots → IsBound c slots
-slots_computed c slots o none are = subst (λ z. AreSlotsOf c z slots) none are
+pub slots_computed : (level : Level) (c : Compiled) (slots : ℕ) (o : Option Word) → o ≡ None → AreSlotsOf level c o slots → IsBoundAt level c slots
+slots_computed level c slots o none are = subst (λ z. AreSlotsOf level c z slots) none are
 
 module _ (d p : List ℕ) (checks : Checks) (c : Compiled) (source : SpellProblem d p checks c) where
   pub graph : (h : Hddl) (k : Compiled) → IsHddlOf d p h → IsCompiled h checks k → HaveOneGraph k c
@@ -50,11 +55,33 @@ module _ (d p : List ℕ) (checks : Checks) (c : Compiled) (source : SpellProble
   pub bound_of_each : (n : ℕ) → IsBound c n → (h : Hddl) (k : Compiled) → IsHddlOf d p h → IsCompiled h checks k → IsBound k n
   bound_of_each n bound h k s is = ((graph h k s is).bound n).1 bound
 
-  -- and the same named cycle
-  pub cycle_of_each : (words : List ℕ) → NamesCycle c words → (err err' : SinkState) → Told (line_of (refused.Finding (finding.NotTailRecursive words))) err err' → TellsCycle checks d p err err'
-  cycle_of_each words (edges, named, is) err err' told h k s compiled =
-      let line = is ∙ ap spaced (sym (words_same k c (graph h k s compiled) edges)) in
-      (edges, named_back k c (graph h k s compiled) edges named, subst (λ z. Told (codes "not tail-recursive:" ++ z ++ codes "\n") err err') line told)
+  abbrev told_by : List ℕ → SinkState → SinkState → Type 0
+  told_by words err err' = Told (codes "not tail-recursive:" ++ words ++ codes "\n") err err'
+
+  -- at each level
+  module _ (alike : ValuesHaveOneGroundBound) where
+    ground : (h : Hddl) (k : Compiled) → IsHddlOf d p h → IsCompiled h checks k → AreGroundAlike c k
+    ground h k s is = alike d p source.value h checks c k source.read.spelled s source.read.sound source.compiled_is is
+
+    at_most : (h : Hddl) (k : Compiled) → IsHddlOf d p h → IsCompiled h checks k → IsAtMost c most_reached → IsAtMost k most_reached
+    at_most h k s is (n, size, few) = (n, (ground h k s is).size n size, few)
+
+    pub bound_at_each : (level : Level) (n : ℕ) → IsBoundAt level c n → (h : Hddl) (k : Compiled) → IsHddlOf d p h → IsCompiled h checks k → IsBoundAt level k n
+    bound_at_each Lifted n bound h k s is = bound_of_each n bound h k s is
+    bound_at_each Ground n (few, bound) h k s is = (at_most h k s is few, (ground h k s is).bound n bound)
+
+    -- and the same named cycle
+    pub cycle_of_each : (level : Level) (words : List ℕ) → NamesCycleAt level c words → (err err' : SinkState)
+        → Told (line_of (refused.Finding (finding.NotTailRecursive words))) err err' → TellsCycle level checks d p err err'
+    cycle_of_each Lifted words (edges, named, is) err err' told = λ h k s compiled. (
+        let line = is ∙ ap spaced (sym (words_same k c (graph h k s compiled) edges)) in
+        (edges, named_back k c (graph h k s compiled) edges named, subst (λ z. told_by z err err') line told)
+        )
+    cycle_of_each Ground words (few, (e, walk, named, is)) err err' told = λ h k s compiled. (
+        let same = ground h k s compiled in
+        let line = is ∙ ap spaced (same.words (e ∷ walk)) in
+        (e, walk, same.cycle e walk named, subst (λ z. told_by z err err') line told)
+        )
 
   -- two texts that are printed for one of them have the meaning of each
   pub faithful_of_each : (slots : ℕ) (style : Style) (value : Pddl) (h : Hddl) (k : Compiled) → IsHddlOf d p h → IsPrinted h checks k slots style value

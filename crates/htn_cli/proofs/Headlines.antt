@@ -1,5 +1,5 @@
 -- What a run promises of the problem that its inputs spell, from what it wrote and told.
-use Rattle.std.proofs.Common.{ℕ, ◌≡◌, Bool, List, [], ◌∷◌, Option, Some, None, IfSome, option_map, refl, sym, ◌∙◌, subst, inl, inr, arith}
+use Rattle.std.proofs.Common.{ℕ, ◌≡◌, ◌≤◌, Bool, List, [], ◌∷◌, Option, Some, None, IfSome, option_map, refl, sym, ◌∙◌, subst, inl, inr, arith}
 use Rattle.outside_io.specs.Folder.{Folder, file_of}
 use Rattle.outside_io.specs.Files.{FilesState}
 use Rattle.outside_io.specs.Sink.{SinkState}
@@ -8,19 +8,25 @@ use Rattle.plan_model.specs.declared.values.Hddl.{Hddl}
 use Rattle.plan_texts.specs.FirstSeen.{IsHddlOf}
 use Rattle.plan_texts.specs.PrintedTexts.{domain_text, problem_text}
 use Rattle.plan_model.specs.plan_meaning.Compilation.{IsCompiled}
-use Rattle.plan_model.specs.plan_meaning.Bound.{IsBound}
+use Rattle.plan_model.specs.task_networks.Tree.{Tree, Address}
+use Rattle.plan_model.specs.task_networks.Pending.{IsWithin}
 use Rattle.plan_model.specs.plan_meaning.Network.{network}
+use Rattle.plan_model.specs.plan_meaning.Solution.{IsSolution}
+use Rattle.plan_model.specs.declared.options.Checks.{Checks}
 use Rattle.slot_machine.proofs.SpellingSteps.{open_pending, pending_open}
 use Rattle.slot_machine.proofs.bound_laws.EveryFront.{every_front_is_within}
 use Rattle.plan_model.proofs.plan_meaning.FailingLaws.{each_is_plan_or_fails}
 use Rattle.plan_model.specs.declared.causes.FailWhy.{FailWhy}
-use Rattle.plan_proof.specs.Headline.{Headline, HeadlineAtBound}
+use Rattle.plan_proof.specs.Headline.{Headline, HeadlineAtBound, IsFaithful, LosesNothing}
 use Rattle.plan_proof.proofs.texts.SamePlans.{spelled-plans}
 use Rattle.plan_proof.proofs.values.Headlines.{headline_of, headline_at_bound_of}
-use Rattle.plan_proof.proofs.machine.Bounds.{loses_nothing}
 use Rattle.decode_answers.specs.DecodeLaws.{ValuesAreDecodedAlike}
 use Rattle.encode_answers.specs.EncodeLaws.{ValuesAreEncodedAlike}
 use Rattle.made_transport.specs.Made.{made_domain}
+use Rattle.ground_bound.proofs.Width.{solutions_are_within}
+use Rattle.ground_answers.specs.GroundLaws.{ValuesHaveOneGroundBound}
+use Rattle.command_words.specs.declared.level.Level.{Level}
+use Rattle.command_words.specs.declared.level.Level.TheVariants.{Lifted, Ground}
 use Rattle.command_words.specs.Names.{Word}
 use Rattle.command_words.specs.Words.{TranslationRequest, BoundRequest, Request, to_translate, to_bound, to_decode, to_encode, to_validate, to_make, Asks}
 use Rattle.htn_cli.specs.Answer.{Output, Answer, refuses, gives}
@@ -31,6 +37,7 @@ use Rattle.htn_cli.specs.Encoding.{GivesSteps}
 use Rattle.htn_cli.specs.Ending.{Achieves, IsDone, IsRefused}
 use Rattle.htn_cli.specs.Inputs.{AreGot, AreWhole}
 use Rattle.htn_cli.specs.Left.{Stand}
+use Rattle.htn_cli.specs.Levels.{IsBoundAt}
 use Rattle.htn_cli.specs.Lines.{slots_line, bound_line, valid_line, summary}
 use Rattle.htn_cli.specs.Making.{packages, problem_of, translation_for, GivesMake}
 use Rattle.htn_cli.specs.Problem.{SpellProblem}
@@ -59,14 +66,29 @@ use Rattle.htn_cli.specs.declared.refusal.Refusal.{Refusal}
 use Rattle.htn_cli.specs.declared.refusal.Refusal.TheVariants as refused
 use Rattle.htn_cli.proofs.Endings.{asked_left, asked_done, never_done}
 use Rattle.htn_cli.proofs.Validations.{sound_apart}
-use Rattle.htn_cli.proofs.EachProblem.{slots_given, slots_computed, bound_of_each, cycle_of_each, faithful_of_each}
+use Rattle.htn_cli.proofs.EachProblem.{slots_given, slots_computed, bound_at_each, cycle_of_each, faithful_of_each}
 use Rattle.htn_cli.proofs.LawsUsed.{LawsUsed}
 use Rattle.htn_cli.proofs.MadeTold.{keeps_made, nothing_made}
 use Rattle.htn_cli.proofs.TreeTold.{tree_here, none_here}
 use Rattle.htn_cli.proofs.StepsTold.{steps_here, no_steps_here}
 
+-- As many slots as the bound at a level are enough for all solutions.
+module _ (h : Hddl) (checks : Checks) (c : Compiled) (compiled : IsCompiled h checks c) where
+  within_bound : (level : Level) (n : ℕ) → IsBoundAt level c n → (tree : Tree (network c)) (order : List Address) → IsSolution c tree order
+      → IsWithin (network c) n tree order
+  within_bound Lifted n bound tree order is = every_front_is_within h checks c compiled n bound tree order is.finished.front
+  within_bound Ground n (few, bound) tree order is = solutions_are_within h checks c compiled n bound tree order is
+
+  loses_nothing_at : (level : Level) (n : ℕ) → IsBoundAt level c n → (b : ℕ) (domain problem : List ℕ) → n ≤ b → IsFaithful c b domain problem
+      → LosesNothing c b domain problem
+  loses_nothing_at level n bound b domain problem l f tree order is =
+      let front = is.finished.front in
+      let w = within_bound level n bound tree order is in
+      let (steps, slot, s) = f.spelled tree order front (λ taken rest nodes e a. (let k = w taken rest nodes e a in omega (arith, k, l))) in
+      (steps, slot, s, (f.plans steps).1 (tree, order, slot, s, is))
+
 -- The texts of a translation, and its number of slots.
-module _ (request : TranslationRequest) (d p : List ℕ) (out out' : SinkState) (texts : Texts) (slots : ℕ) (written : AreWritten request d p texts slots) where
+module _ (ground : ValuesHaveOneGroundBound) (request : TranslationRequest) (d p : List ℕ) (out out' : SinkState) (texts : Texts) (slots : ℕ) (written : AreWritten request d p texts slots) where
   abbrev c : Compiled
   c = written.compiled
 
@@ -92,29 +114,35 @@ module _ (request : TranslationRequest) (d p : List ℕ) (out out' : SinkState) 
 
     pub keep_here : KeepPlans request d p od op slots
     keep_here = record {
-      given = slots_given c slots request.numeral written.source.slots_are;
+      given = slots_given request.level c slots request.numeral written.source.slots_are;
       headline = headline_here;
       at_bound = at_bound_here;
       open_leaves = λ h k s is tree order q scheduled. (pending_open (network k) tree order q scheduled, open_pending (network k) tree order q scheduled);
-      nothing_lost = λ none h k s is. loses_nothing h request.checks k is slots (bound_of_each d p request.checks c source slots (slots_computed c slots request.numeral none written.source.slots_are) h k s is) slots od op (omega arith) (headline_here h k s is);
+      nothing_lost = λ none h k s is. (
+          let here = slots_computed request.level c slots request.numeral none written.source.slots_are in
+          let there = bound_at_each d p request.checks c source ground request.level slots here h k s is in
+          loses_nothing_at h request.checks k is request.level slots there slots od op (omega arith) (headline_here h k s is)
+          );
     }
 
     pub keeps : TakesWhole (slots_line slots) out out' → KeepsPlans request d p od op out out'
     keeps told = record { slots = slots; told = told; keep = keep_here }
 
 -- A bound that was told.
-module _ (request : BoundRequest) (d p : List ℕ) (out out' : SinkState) (n : ℕ) (c : Compiled) (source : SpellProblem d p request.checks c) (bound : IsBound c n) where
-  each : (h : Hddl) (k : Compiled) → IsHddlOf d p h → IsCompiled h request.checks k → IsBound k n
-  each = bound_of_each d p request.checks c source n bound
+module _ (ground : ValuesHaveOneGroundBound) (request : BoundRequest) (d p : List ℕ) (out out' : SinkState) (n : ℕ) (c : Compiled) (source : SpellProblem d p request.checks c) (bound : IsBoundAt request.level c n) where
+  each : (h : Hddl) (k : Compiled) → IsHddlOf d p h → IsCompiled h request.checks k → IsBoundAt request.level k n
+  each = bound_at_each d p request.checks c source ground request.level n bound
 
   pub bound_here : TakesWhole (bound_line n) out out' → TellsBound request d p out out'
   bound_here told = record {
     bound = n;
     told = told;
     is = each;
-    every_front = λ h k s is tree order front. every_front_is_within h request.checks k is n (each h k s is) tree order front;
+    every_solution = λ h k s is tree order solution. within_bound h request.checks k is request.level n (each h k s is) tree order solution;
+    every_front = λ lifted h k s is tree order front.
+        every_front_is_within h request.checks k is n (subst (λ l. IsBoundAt l k n) lifted (each h k s is)) tree order front;
     nothing_lost = λ h k s is slots l style value printed.
-        loses_nothing h request.checks k is n (each h k s is) slots (domain_text value) (problem_text value) l
+        loses_nothing_at h request.checks k is request.level n (each h k s is) slots (domain_text value) (problem_text value) l
         (faithful_of_each d p request.checks c source slots style value h k s printed h k s is);
   }
 
@@ -143,12 +171,14 @@ module _ (pd pp plan : List ℕ) where
 
 -- What was found of the texts of a request.
 pub finding_here : (laws : LawsUsed) (request : Request) (texts : List (List ℕ)) (f : Finding) → Refuses request texts (refused.Finding f) → (err err' : SinkState) → Told (line_of (refused.Finding f)) err err' → TellsFinding request texts err err'
-finding_here laws (to_translate r) (d ∷ p ∷ []) (finding.NotTailRecursive words) (none, (c, source, named)) err err' line = cycle_of_each d p r.checks c source words named err err' line
-finding_here laws (to_bound r) (d ∷ p ∷ []) (finding.NotTailRecursive words) (c, source, named) err err' line = cycle_of_each d p r.checks c source words named err err' line
+finding_here laws (to_translate r) (d ∷ p ∷ []) (finding.NotTailRecursive words) (none, (c, source, named)) err err' line =
+    cycle_of_each d p r.checks c source laws.ground r.level words named err err' line
+finding_here laws (to_bound r) (d ∷ p ∷ []) (finding.NotTailRecursive words) (c, source, named) err err' line =
+    cycle_of_each d p r.checks c source laws.ground r.level words named err err' line
 finding_here laws (to_decode r) (d ∷ p ∷ plan ∷ []) (finding.NotTailRecursive words) (none, (c, steps, spelled, named)) err err' line =
-    inl (none, cycle_of_each d p r.checks c spelled.spelled.problem_is words named err err' line)
+    inl (none, cycle_of_each d p r.checks c spelled.spelled.problem_is laws.ground r.level words named err err' line)
 finding_here laws (to_decode r) (d ∷ p ∷ plan ∷ []) (finding.SpellsNoSolution step why) (c, steps, slots, is, fails) err err' line =
-    inr (none_here laws.decoded r d p plan c steps slots is step why fails err err' line)
+    inr (none_here laws.decoded laws.ground r d p plan c steps slots is step why fails err err' line)
 finding_here laws (to_encode r) (d ∷ p ∷ hplan ∷ []) f (c, plan, s, is) err err' line = no_steps_here laws.encoded r d p hplan c plan s.spelled laws.within f is err err' line
 finding_here laws (to_validate r) (pd ∷ pp ∷ plan ∷ []) (finding.NotAPlan step why) x err err' line = failure_here pd pp plan step why err err' line x
 finding_here laws (to_make r) [] f x err err' line = nothing_made laws r f x err err' line
@@ -217,8 +247,8 @@ module _ (words : List Word) (files files' : FilesState) (out out' : SinkState) 
         let x = come request achieved.is.texts (gives achieved.output) achieved.is.answers in
         subst (λ z. Gives request z achieved.output) (same_texts files (inputs_of request) achieved.is.texts texts achieved.is.got x.0 told) x.1
 
-  pub headline_done : HasHeadline words files files' out out'
-  headline_done r d p od op told =
+  pub headline_done : ValuesHaveOneGroundBound → HasHeadline words files files' out out'
+  headline_done ground r d p od op told =
       go (achieved (to_translate r) told.asked (d ∷ p ∷ []) read) (gives_here (to_translate r) told.asked (d ∷ p ∷ []) read)
     where
       read : AreToldToRead files (inputs_of (to_translate r)) (d ∷ p ∷ [])
@@ -228,17 +258,17 @@ module _ (words : List Word) (files files' : FilesState) (out out' : SinkState) 
       go a (texts, slots, written, e) =
           let stand : Stand (translation_output r.names texts slots).texts files files' = subst (λ (z : Output). Stand z.texts files files') e a.stands.0 in
           let line : TakesWhole (slots_line slots) out out' = subst (λ (z : Output). TakesWhole z.told out out') e a.stands.1 in
-          keeps r d p out out' texts slots written od op
+          keeps ground r d p out out' texts slots written od op
           (held_there files.held _ texts.domain od stand.held.0 told.domain_held)
           (held_there files.held _ texts.problem op stand.held.1.0 told.problem_held) line
 
-  pub bound_done : HasBound words files out out'
-  bound_done r d p asked read = go (achieved (to_bound r) asked (d ∷ p ∷ []) read) (gives_here (to_bound r) asked (d ∷ p ∷ []) read)
+  pub bound_done : ValuesHaveOneGroundBound → HasBound words files out out'
+  bound_done ground r d p asked read = go (achieved (to_bound r) asked (d ∷ p ∷ []) read) (gives_here (to_bound r) asked (d ∷ p ∷ []) read)
     where
       go : (a : Achieves files files' out out' (to_bound r)) → GivesBound r d p a.output → TellsBound r d p out out'
       go a (n, (c, source, bound), small, e) =
           let line : TakesWhole (bound_line n) out out' = subst (λ (z : Output). TakesWhole z.told out out') e a.stands.1 in
-          bound_here r d p out out' n c source bound line
+          bound_here ground r d p out out' n c source bound line
 
   pub plan_done : HasPlan words files out out'
   plan_done r pd pp plan asked read = go (achieved (to_validate r) asked (pd ∷ pp ∷ plan ∷ []) read) (gives_here (to_validate r) asked (pd ∷ pp ∷ plan ∷ []) read)
@@ -248,14 +278,14 @@ module _ (words : List Word) (files files' : FilesState) (out out' : SinkState) 
           let line : TakesWhole valid_line out out' = subst (λ (z : Output). TakesWhole z.told out out') e a.stands.1 in
           plan_here pd pp plan out out' are line
 
-  pub tree_done : ValuesAreDecodedAlike → HasTree words files out out'
-  tree_done alike r d p plan asked read =
+  pub tree_done : ValuesAreDecodedAlike → ValuesHaveOneGroundBound → HasTree words files out out'
+  tree_done alike ground r d p plan asked read =
       go (achieved (to_decode r) asked (d ∷ p ∷ plan ∷ []) read) (gives_here (to_decode r) asked (d ∷ p ∷ plan ∷ []) read)
     where
       go : (a : Achieves files files' out out' (to_decode r)) → GivesTree r d p plan a.output → TellsTree r d p plan out out'
       go a (c, steps, slots, text, is, has, e) =
           let line : TakesWhole text out out' = subst (λ (z : Output). TakesWhole z.told out out') e a.stands.1 in
-          tree_here alike r d p plan c steps slots is text has out out' line
+          tree_here alike ground r d p plan c steps slots is text has out out' line
 
   pub steps_done : ValuesAreDecodedAlike → ValuesAreEncodedAlike → HasSteps words files out out'
   steps_done alike encoded r d p hplan asked read =
@@ -276,7 +306,7 @@ module _ (words : List Word) (files files' : FilesState) (out out' : SinkState) 
           let domain_is = held_there files.held _ texts.domain od stand.held.0 domain_held in
           let problem_is = held_there files.held _ texts.problem op stand.held.1.0 problem_held in
           keeps_made laws r out out' texts actions bound width steps are od op domain_is problem_is
-          (keep_here (translation_for r) made_domain (problem_of r) out out' texts bound are.written od op domain_is problem_is) line
+          (keep_here laws.ground (translation_for r) made_domain (problem_of r) out out' texts bound are.written od op domain_is problem_is) line
 
 -- a finding that was told, and no other refusal has this status
 pub finding_refused : (laws : LawsUsed) (words : List Word) (files files' : FilesState) (out out' : SinkState) (refusal : Refusal) → IsRefused words files files' out out' refusal → status_of refusal ≡ status.Finding → (err err' : SinkState) → Told (line_of refusal) err err'
@@ -298,9 +328,9 @@ finding_refused laws words files files' out out' (refused.Failure failure.Memory
 module _ (laws : LawsUsed) (words : List Word) (files files' : FilesState) (out out' : SinkState) where
   pub promise_done : (err : SinkState) → IsDone words files files' out out' → KeepsPromise words files files' out out' err err status.Done
   promise_done err done = record {
-    translate = λ e. headline_done words files files' out out' done;
-    bound = λ e. bound_done words files files' out out' done;
-    decode = λ e. tree_done words files files' out out' done laws.decoded;
+    translate = λ e. headline_done words files files' out out' done laws.ground;
+    bound = λ e. bound_done words files files' out out' done laws.ground;
+    decode = λ e. tree_done words files files' out out' done laws.decoded laws.ground;
     encode = λ e. steps_done words files files' out out' done laws.decoded laws.encoded;
     validate = λ e. plan_done words files files' out out' done;
     make = λ e. made_done words files files' out out' done laws;

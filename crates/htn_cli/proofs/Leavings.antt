@@ -10,8 +10,10 @@ use Rattle.plan_model.specs.declared.values.Compiled.{Compiled}
 use Rattle.plan_model.specs.task_networks.Bound.{itself}
 use Rattle.plan_model.specs.plan_meaning.Network.{top_task}
 use Rattle.plan_model.specs.plan_meaning.Schemas.{task}
-use Rattle.plan_model.specs.plan_meaning.Bound.{IsBound}
+use Rattle.plan_model.specs.plan_meaning.Solution.{top_work}
 use Rattle.plan_texts.specs.SoundlyCompiled.{IsSoundlyCompiled}
+use Rattle.command_words.specs.declared.level.Level.{Level}
+use Rattle.command_words.specs.declared.level.Level.TheVariants.{Lifted, Ground}
 use Rattle.command_words.specs.Names.{Word, Names}
 use Rattle.command_words.specs.Words.{TranslationRequest, BoundRequest, ValidationRequest, Request, to_translate, to_bound, to_validate, number_of}
 use Rattle.htn_cli.specs.Answer.{Output, Answer, refuses, gives, told_alone}
@@ -21,6 +23,7 @@ use Rattle.htn_cli.specs.Ending.{Achieves}
 use Rattle.htn_cli.specs.Inputs.{AreGot, AreWhole}
 use Rattle.htn_cli.specs.Printing.{AreWhole as ArePrintedWhole}
 use Rattle.htn_cli.specs.Left.{Leaves, StandsUpTo}
+use Rattle.htn_cli.specs.Levels.{IsBoundAt}
 use Rattle.htn_cli.specs.Lines.{slots_line, bound_line, valid_line}
 use Rattle.htn_cli.specs.Made.{output_of, texts_by, AreMadeWith, IsMadeWith, IsMadeFor, StopsMadeFor, manner_of, GivesOutput, NamesDiffer}
 use Rattle.htn_cli.specs.Problem.{SpellProblem}
@@ -40,8 +43,9 @@ use Rattle.htn_cli.specs.declared.refusal.Refusal.TheVariants as refused
 use Rattle.htn_cli.proofs.Printed.{translated}
 
 -- a bound is at least 1
-pub positive : (c : Compiled) (n : ℕ) → IsBound c n → 1 ≤ n
-positive c n b = subst (λ z. 1 ≤ z) b.is (b.numbers.positive (task (top_task c)) itself)
+pub positive : (level : Level) (c : Compiled) (n : ℕ) → IsBoundAt level c n → 1 ≤ n
+positive Lifted c n b = subst (λ z. 1 ≤ z) b.is (b.numbers.positive (task (top_task c)) itself)
+positive Ground c n (few, b) = let B = b.bound in subst (λ z. 1 ≤ z) B.is (B.numbers.positive (top_work c) itself)
 
 -- what was read is ready for its bound
 pub soundly : (d p : List ℕ) (checks : Checks) (c : Compiled) → SpellProblem d p checks c → IsSoundlyCompiled c
@@ -190,37 +194,38 @@ module _ (r : TranslationRequest) where
     abbrev Stopped : Refusal → Type 0
     Stopped = StopsTexts (to_translate r) (d ∷ p ∷ [])
 
-    bound_stops : r.numeral ≡ None → (refusal : Refusal) → StopsBound c refusal → Stopped refusal
+    bound_stops : r.numeral ≡ None → (refusal : Refusal) → StopsBound r.level c refusal → Stopped refusal
     bound_stops none (refused.Finding (finding.NotTailRecursive words)) stops = inr (none, (c, spelled, stops))
+    bound_stops none (refused.Limit limit.Ground) stops = inr (none, (c, spelled, stops))
     bound_stops none (refused.Limit limit.Bound) (n, bound, past) = inr (none, (n, (c, spelled, bound), past))
     bound_stops none (refused.Failure failure.Memory) stops = tt
     bound_stops none _ stops = absurd stops
 
-    computed_past : r.numeral ≡ None → (n : ℕ) → IsBound c n → (refusal : Refusal) → RefusesSlots most_slots n refusal → Stopped refusal
+    computed_past : r.numeral ≡ None → (n : ℕ) → IsBoundAt r.level c n → (refusal : Refusal) → RefusesSlots most_slots n refusal → Stopped refusal
     computed_past none n bound (refused.Limit limit.Bound) stops = inr (none, (n, (c, spelled, bound), stops))
     computed_past none n bound (refused.Limit (limit.Slots m)) stops = inr (none, (n, (c, spelled, bound), stops))
     computed_past none n bound _ stops = absurd stops
 
-    pub chosen_stops : (refusal : Refusal) → StopsChosen c g refusal → Stopped refusal
+    pub chosen_stops : (refusal : Refusal) → StopsChosen r.level c g refusal → Stopped refusal
     chosen_stops refusal stops = go r.numeral g is stops refl
       where
-        go : (o : Option Word) (g : Option ℕ) → IsGiven o g → StopsChosen c g refusal → r.numeral ≡ o → Stopped refusal
+        go : (o : Option Word) (g : Option ℕ) → IsGiven o g → StopsChosen r.level c g refusal → r.numeral ≡ o → Stopped refusal
         go o (Some g) is stops e = absurd stops
         go (Some word) None is stops e = absurd is
         go None None is (inl stops) e = bound_stops e refusal stops
         go None None is (inr (n, bound, stops)) e = computed_past e n bound refusal stops
 
-    module _ (slots : ℕ) (chosen : IsChosen c g slots) where
+    module _ (slots : ℕ) (chosen : IsChosen r.level c g slots) where
       pub for_slots : IsForSlots r d p c slots
       for_slots = go r.numeral g is chosen refl
         where
-          go : (o : Option Word) (g : Option ℕ) → IsGiven o g → IsChosen c g slots → r.numeral ≡ o → IsForSlots r d p c slots
+          go : (o : Option Word) (g : Option ℕ) → IsGiven o g → IsChosen r.level c g slots → r.numeral ≡ o → IsForSlots r d p c slots
           go None None is (n, bound, are) e =
-              record { problem_is = spelled; slots_are = subst (λ z. AreSlotsOf c z slots) (sym e) (subst (IsBound c) (sym are.same) bound); some = are.some; few = are.few }
+              record { problem_is = spelled; slots_are = subst (λ z. AreSlotsOf r.level c z slots) (sym e) (subst (IsBoundAt r.level c) (sym are.same) bound); some = are.some; few = are.few }
           go None (Some g) is chosen e = absurd is
           go (Some word) None is chosen e = absurd is
           go (Some word) (Some g) is chosen e =
-              record { problem_is = spelled; slots_are = subst (λ z. AreSlotsOf c z slots) (sym e) (chosen ∙ is.same); some = subst (λ z. 1 ≤ z) (sym chosen) is.some; few = subst (λ z. z ≤ most_slots) (sym chosen) is.few }
+              record { problem_is = spelled; slots_are = subst (λ z. AreSlotsOf r.level c z slots) (sym e) (chosen ∙ is.same); some = subst (λ z. 1 ≤ z) (sym chosen) is.some; few = subst (λ z. z ≤ most_slots) (sym chosen) is.few }
 
       pub print_stops : (refusal : Refusal) → StopsPrinted c (manner_of r slots) refusal → Stopped refusal
       print_stops (refused.Limit (limit.Output n)) stops = inr (c, slots, for_slots, stops)
@@ -264,13 +269,14 @@ module _ (r : BoundRequest) (d p : List ℕ) where
   bound_fits output (n, has, small, e) = subst (λ (z : Output). length z.told ≤ longest_output) (sym e) (bound_line_fits n small)
 
   module _ (c : Compiled) (spelled : SpellProblem d p r.checks c) where
-    pub bound_not_computed : (refusal : Refusal) → StopsBound c refusal → StopsTexts (to_bound r) (d ∷ p ∷ []) refusal
+    pub bound_not_computed : (refusal : Refusal) → StopsBound r.level c refusal → StopsTexts (to_bound r) (d ∷ p ∷ []) refusal
     bound_not_computed (refused.Finding (finding.NotTailRecursive words)) stops = inr (c, spelled, stops)
+    bound_not_computed (refused.Limit limit.Ground) stops = inr (c, spelled, stops)
     bound_not_computed (refused.Limit limit.Bound) (n, bound, past) = inr (n, (c, spelled, bound), past)
     bound_not_computed (refused.Failure failure.Memory) stops = tt
     bound_not_computed _ stops = absurd stops
 
-    pub gives_bound : (n : ℕ) → IsBound c n → n < 2 ^ 128 → (made : Made) → output_of made ≡ told_alone (bound_line n) → GivesBound r d p (output_of made)
+    pub gives_bound : (n : ℕ) → IsBoundAt r.level c n → n < 2 ^ 128 → (made : Made) → output_of made ≡ told_alone (bound_line n) → GivesBound r d p (output_of made)
     gives_bound n bound small made e = (n, (c, spelled, bound), small, e)
 
 -- A validation.

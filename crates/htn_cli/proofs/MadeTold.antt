@@ -16,6 +16,7 @@ use Rattle.plan_encoder.specs.Calls.{ShowsUnderSomeIds}
 use Rattle.placements.proofs.PlacedPlans.{placed_are_solutions}
 use Rattle.step_texts.specs.StepTexts.{IsSpelled}
 use Rattle.made_transport.specs.Made.{made_domain}
+use Rattle.command_words.specs.declared.level.Level.TheVariants.{Lifted}
 use Rattle.command_words.specs.Words.{TranslationRequest, MakeRequest}
 use Rattle.htn_cli.specs.Lines.{summary}
 use Rattle.htn_cli.specs.Making.{packages, problem_of, plan_of, translation_for, AreMade, RefusesMake}
@@ -112,8 +113,8 @@ module _ (laws : LawsUsed) (request : MakeRequest) where
       }
 
   -- nothing was made
-  by_cycle : (f : Finding) → RefusesTranslation t made_domain p (refused.Finding f) → (err err' : SinkState) → Told (line_of (refused.Finding f)) err err' → TellsCycle Leaf made_domain p err err'
-  by_cycle (finding.NotTailRecursive words) (none, (c, source, named)) err err' line = cycle_of_each made_domain p Leaf c source words named err err' line
+  by_cycle : (f : Finding) → RefusesTranslation t made_domain p (refused.Finding f) → (err err' : SinkState) → Told (line_of (refused.Finding f)) err err' → TellsCycle Lifted Leaf made_domain p err err'
+  by_cycle (finding.NotTailRecursive words) (none, (c, source, named)) err err' line = cycle_of_each made_domain p Leaf c source laws.ground Lifted words named err err' line
   by_cycle _ x err err' line = absurd x
 
   pub nothing_made : (f : Finding) → RefusesMake request (refused.Finding f) → (err err' : SinkState) → Told (line_of (refused.Finding f)) err err' → TellsNothingMade request err err'

@@ -7,7 +7,6 @@ use Rattle.outside_io.specs.Files.{FilesState}
 use Rattle.plan_model.specs.declared.options.Style.TheVariants.{Adl}
 use Rattle.plan_model.specs.declared.options.Checks.TheVariants.{Leaf}
 use Rattle.plan_model.specs.declared.values.Compiled.{Compiled}
-use Rattle.plan_model.specs.plan_meaning.Bound.{IsBound}
 use Rattle.made_transport.specs.Made.{made_domain}
 use Rattle.command_words.specs.Words.{TranslationRequest, MakeRequest, to_make, number_of}
 use Rattle.htn_cli.specs.Answer.{refuses, gives}
@@ -31,6 +30,8 @@ use Rattle.htn_cli.specs.declared.refusal.Refusal.{Refusal}
 use Rattle.htn_cli.specs.declared.refusal.Refusal.TheVariants as refused
 use Rattle.htn_cli.proofs.CallsMade.{no_calls}
 use Rattle.htn_cli.proofs.Leavings.{few_digits, written_texts, for_slots, are_written}
+use Rattle.htn_cli.specs.Levels.{IsBoundAt}
+use Rattle.command_words.specs.declared.level.Level.TheVariants.{Lifted}
 
 -- The lines are short.
 line_fits : (word : List ℕ) (n : ℕ) → length word ≤ 20 → n < 2 ^ 128 → length (count_line word n) ≤ 60
@@ -112,7 +113,7 @@ module _ (r : MakeRequest) where
     abbrev Stopped : Refusal → Type 0
     Stopped = StopsTexts (to_make r) []
 
-    source : (bound : ℕ) → IsComputed c bound → IsAtBound r c bound
+    source : (bound : ℕ) → IsComputed Lifted c bound → IsAtBound r c bound
     source bound computed = for_slots t made_domain p c spelled None tt bound computed
 
     pub gives_make : (made : Made) → IsMadeAtBound r c (plan_of r) made → GivesMake r (output_of made)
@@ -136,24 +137,24 @@ module _ (r : MakeRequest) where
               (let a = written_texts t.names made.written w od op e in λ i. record { texts = a i; told = line i }),
             )
 
-    bound_stops : (refusal : Refusal) → StopsBound c refusal → Stopped refusal
+    bound_stops : (refusal : Refusal) → StopsBound Lifted c refusal → Stopped refusal
     bound_stops (refused.Finding (finding.NotTailRecursive words)) stops = inr (inl (refl, (c, spelled, stops)))
     bound_stops (refused.Limit limit.Bound) (n, bound, past) = inr (refl, (n, (c, spelled, bound), past))
     bound_stops (refused.Failure failure.Memory) stops = tt
     bound_stops _ stops = absurd stops
 
-    computed_past : (n : ℕ) → IsBound c n → (refusal : Refusal) → RefusesSlots most_slots n refusal → Stopped refusal
+    computed_past : (n : ℕ) → IsBoundAt Lifted c n → (refusal : Refusal) → RefusesSlots most_slots n refusal → Stopped refusal
     computed_past n bound (refused.Limit limit.Bound) stops = inr (refl, (n, (c, spelled, bound), stops))
     computed_past n bound (refused.Limit (limit.Slots m)) stops = inr (inl (refl, (n, (c, spelled, bound), stops)))
     computed_past n bound _ stops = absurd stops
 
-    counting_stops : (bound : ℕ) → IsComputed c bound → (refusal : Refusal) → StopsCounting r c (plan_of r) refusal → Stopped refusal
+    counting_stops : (bound : ℕ) → IsComputed Lifted c bound → (refusal : Refusal) → StopsCounting r c (plan_of r) refusal → Stopped refusal
     counting_stops bound computed (refused.Finding f) is = inr (inr (c, bound, source bound computed, is))
     counting_stops bound computed (refused.Limit (limit.Slots n)) (has, past) = inr (inr (c, bound, source bound computed, has, past))
     counting_stops bound computed (refused.Failure failure.Memory) stops = tt
     counting_stops bound computed _ stops = absurd stops
 
-    printing_stops : (bound : ℕ) → IsComputed c bound → (width steps : ℕ) → IsCounted c (plan_of r) width steps → (refusal : Refusal) → StopsPrinted c (manner_of t bound) refusal → Stopped refusal
+    printing_stops : (bound : ℕ) → IsComputed Lifted c bound → (width steps : ℕ) → IsCounted c (plan_of r) width steps → (refusal : Refusal) → StopsPrinted c (manner_of t bound) refusal → Stopped refusal
     printing_stops bound computed width steps is (refused.Limit (limit.Output n)) long = inr (inl (c, bound, width, steps, source bound computed, is, long))
     printing_stops bound computed width steps is (refused.Failure failure.Memory) stops = tt
     printing_stops bound computed width steps is _ stops = absurd stops

@@ -7,6 +7,7 @@ use Rattle.command_words.specs.Words.{TranslationRequest, BoundRequest, DecodeRe
 use Rattle.command_words.proofs.Requests.{one_request}
 use Rattle.decode_answers.specs.DecodeLaws.{EachIsDecodedOnce, ValuesAreDecodedAlike}
 use Rattle.encode_answers.specs.EncodeLaws.{EachIsEncodedOnce, EachIsSpelledOnce, ValuesAreEncodedAlike}
+use Rattle.ground_answers.specs.GroundLaws.{ValuesHaveOneGroundBound}
 use Rattle.htn_cli.specs.Answer.{Output, Answer, refuses, gives}
 use Rattle.htn_cli.specs.Answers.{Refuses, Gives, RefusesFault, RefusesSize, IsAnswerFor, past_slots, too_large, faulty, declined, given, IsAnswer, IsAnswerTo}
 use Rattle.htn_cli.specs.Inputs.{AreWhole}
@@ -101,14 +102,14 @@ not_both : (request : Request) (texts : List (List ℕ)) (f : Refusal) (a : Answ
 not_both request texts f (refuses refusal) x y = fault_not_declined request texts f refusal x y
 not_both request texts f (gives output) x y = fault_not_given request texts f output x y.0
 
-module _ (once : EachIsDecodedOnce) (alike : ValuesAreDecodedAlike) (encoded_once : EachIsEncodedOnce) (encoded_alike : ValuesAreEncodedAlike) (spelled_once : EachIsSpelledOnce) where
+module _ (once : EachIsDecodedOnce) (alike : ValuesAreDecodedAlike) (encoded_once : EachIsEncodedOnce) (encoded_alike : ValuesAreEncodedAlike) (spelled_once : EachIsSpelledOnce) (ground : ValuesHaveOneGroundBound) where
   one_comes : (request : Request) (texts : List (List ℕ)) (a b : Answer) → Comes request texts a → Comes request texts b → TellTheSame a b
-  one_comes (to_translate r) (d ∷ p ∷ []) a b is also = one_translated r d p a b (translation_comes r d p a is) (translation_comes r d p b also)
-  one_comes (to_bound r) (d ∷ p ∷ []) a b is also = one_bounded r d p a b (bound_comes r d p a is) (bound_comes r d p b also)
-  one_comes (to_decode r) (d ∷ p ∷ l ∷ []) a b is also = one_decoded once alike r d p l a b (decode_comes r d p l a is) (decode_comes r d p l b also)
+  one_comes (to_translate r) (d ∷ p ∷ []) a b is also = one_translated r d p ground a b (translation_comes r d p a is) (translation_comes r d p b also)
+  one_comes (to_bound r) (d ∷ p ∷ []) a b is also = one_bounded ground r d p a b (bound_comes r d p a is) (bound_comes r d p b also)
+  one_comes (to_decode r) (d ∷ p ∷ l ∷ []) a b is also = one_decoded once alike ground r d p l a b (decode_comes r d p l a is) (decode_comes r d p l b also)
   one_comes (to_encode r) (d ∷ p ∷ l ∷ []) a b is also = one_encoded encoded_once encoded_alike r d p l a b (encode_comes r d p l a is) (encode_comes r d p l b also)
   one_comes (to_validate r) (d ∷ p ∷ l ∷ []) a b is also = one_validated d p l a b (plan_comes r d p l a is) (plan_comes r d p l b also)
-  one_comes (to_make r) [] a b is also = one_made encoded_once encoded_alike spelled_once r a b (make_comes r a is) (make_comes r b also)
+  one_comes (to_make r) [] a b is also = one_made encoded_once encoded_alike spelled_once ground r a b (make_comes r a is) (make_comes r b also)
   one_comes request texts a b is also = absurd (nothing_comes request texts (λ refusal x. x) (λ output x. x) a is)
 
   module _ (request : Request) (texts others : List (List ℕ)) (e : Agree texts others) (f : Agree others texts) where

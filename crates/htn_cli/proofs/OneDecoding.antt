@@ -11,6 +11,7 @@ use Rattle.decoding.specs.PrintedSteps.{FailsAt}
 use Rattle.hplan_text.specs.HPlanText.{hplan_text}
 use Rattle.hplan_text.specs.ShownSolutions.{HaveText}
 use Rattle.decode_answers.specs.DecodeLaws.{IsDecodable, IsDecodedOnce, AreDecodedAlike, EachIsDecodedOnce, ValuesAreDecodedAlike}
+use Rattle.ground_answers.specs.GroundLaws.{ValuesHaveOneGroundBound}
 use Rattle.command_words.specs.Words.{DecodeRequest}
 use Rattle.htn_cli.specs.Answer.{Output, Answer, refuses, gives, told_alone}
 use Rattle.htn_cli.specs.Decoding.{SpellSteps, IsForSlots, RefusesDecode, GivesTree}
@@ -20,7 +21,7 @@ use Rattle.htn_cli.specs.declared.refusal.Finding.TheVariants as finding
 use Rattle.htn_cli.specs.declared.refusal.Limit.TheVariants as limit
 use Rattle.htn_cli.specs.declared.refusal.Refusal.{Refusal}
 use Rattle.htn_cli.specs.declared.refusal.Refusal.TheVariants as refused
-use Rattle.htn_cli.proofs.OneSlots.{by_cycle, Follows, cycle, out, within, one_follows}
+use Rattle.htn_cli.proofs.OneSlots.{by_count, by_cycle, Follows, much, cycle, out, within, one_follows}
 
 -- what follows from three texts without a fault: what is given is not too long
 abbrev pub DecodeComes : DecodeRequest → (domain problem plan : List ℕ) → Answer → Type 0
@@ -30,7 +31,7 @@ DecodeComes request d p l (gives output) = GivesTree request d p l output × (le
 abbrev by_failure : ℕ → Why → Answer
 by_failure step why = refuses (refused.Finding (finding.SpellsNoSolution step why))
 
-module _ (once : EachIsDecodedOnce) (alike : ValuesAreDecodedAlike) (request : DecodeRequest) (d p l : List ℕ) where
+module _ (once : EachIsDecodedOnce) (alike : ValuesAreDecodedAlike) (ground : ValuesHaveOneGroundBound) (request : DecodeRequest) (d p l : List ℕ) where
   abbrev Meant : Type 0
   Meant = (c : Compiled) × (steps : List GroundAction) × SpellSteps request d p l c steps
 
@@ -106,7 +107,7 @@ module _ (once : EachIsDecodedOnce) (alike : ValuesAreDecodedAlike) (request : D
   -- and of any number of steps
   data Decided (x : Meant) : Answer → Type 0 where
     many : (n : ℕ) → n ≡ length x.1 → most_steps < n → Decided x (refuses (refused.Limit (limit.Steps n)))
-    few : (a : Answer) → length x.1 ≤ most_steps → Follows request.numeral x.0 (Decodes x) a → Decided x a
+    few : (a : Answer) → length x.1 ≤ most_steps → Follows request.level request.numeral x.0 (Decodes x) a → Decided x a
 
   decided : (x y : Meant) (a b : Answer) → Decided x a → Decided y b → TellTheSame a b
   decided x y a b (many n e past) (many m f over) =
@@ -114,7 +115,7 @@ module _ (once : EachIsDecodedOnce) (alike : ValuesAreDecodedAlike) (request : D
   decided x y a b (many n e past) (few c less k) = absurd (few_or_many x y n e past less)
   decided x y a b (few c less k) (many n e past) = absurd (few_or_many y x n e past less)
   decided x y a b (few c less k) (few q fewer j) =
-      one_follows d p request.checks request.numeral (x.0, x.2.problem_is) (y.0, y.2.problem_is) (Decodes x) (Decodes y)
+      one_follows ground request.level d p request.checks request.numeral (x.0, x.2.problem_is) (y.0, y.2.problem_is) (Decodes x) (Decodes y)
       (λ slots one most. one_decodes slots one most x y) a b k j
 
   made : (c : Compiled) (steps : List GroundAction) (slots : ℕ) (a : Answer) (source : IsForSlots request d p l c steps slots)
@@ -126,6 +127,7 @@ module _ (once : EachIsDecodedOnce) (alike : ValuesAreDecodedAlike) (request : D
   declines (refused.Limit (limit.Steps n)) (c, steps, s, e, past) = ((c, steps, s), many n e past)
   declines (refused.Finding (finding.NotTailRecursive words)) (e, (c, steps, s, named)) =
       ((c, steps, s.spelled), few (by_cycle words) s.few (cycle words e named))
+  declines (refused.Limit limit.Ground) (e, (c, steps, s, past)) = ((c, steps, s.spelled), few by_count s.few (much e past))
   declines (refused.Limit limit.Bound) (e, (c, steps, n, s, bound, past)) =
       ((c, steps, s.spelled), few (refuses (refused.Limit limit.Bound)) s.few (out n (refused.Limit limit.Bound) e bound past))
   declines (refused.Limit (limit.Slots m)) (e, (c, steps, n, s, bound, past)) =

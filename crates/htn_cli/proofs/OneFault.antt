@@ -135,6 +135,7 @@ no_fault d p checks c s file code at f = (have_one_fault language.Hddl d p).none
 
 translation_faultless : (r : TranslationRequest) (d p : List ℕ) (refusal : Refusal) → RefusesTranslation r d p refusal → (file code at : ℕ) → IsLeastFault language.Hddl d p file code at → ⊥
 translation_faultless r d p (refused.Finding (finding.NotTailRecursive words)) (none, (c, s, named)) file code at f = no_fault d p r.checks c s file code at f
+translation_faultless r d p (refused.Limit limit.Ground) (none, (c, s, past)) file code at f = no_fault d p r.checks c s file code at f
 translation_faultless r d p (refused.Limit limit.Bound) (none, (n, (c, s, bound), past)) file code at f = no_fault d p r.checks c s file code at f
 translation_faultless r d p (refused.Limit (limit.Slots m)) (none, (n, (c, s, bound), past)) file code at f = no_fault d p r.checks c s file code at f
 translation_faultless r d p (refused.Limit (limit.Output n)) (c, slots, source, long) file code at f = no_fault d p r.checks c source.problem_is file code at f
@@ -163,9 +164,11 @@ module _ (r : MakeRequest) where
 declined_faultless : (request : Request) (texts : List (List ℕ)) (refusal : Refusal) → Refuses request texts refusal → (file code at : ℕ) → IsLeastOf request texts file code at → ⊥
 declined_faultless (to_translate r) (d ∷ p ∷ []) refusal x file code at f = translation_faultless r d p refusal x file code at f
 declined_faultless (to_bound r) (d ∷ p ∷ []) (refused.Finding (finding.NotTailRecursive words)) (c, s, named) file code at f = (have_one_fault language.Hddl d p).none s.read.faultless file code at f
+declined_faultless (to_bound r) (d ∷ p ∷ []) (refused.Limit limit.Ground) (c, s, past) file code at f = (have_one_fault language.Hddl d p).none s.read.faultless file code at f
 declined_faultless (to_bound r) (d ∷ p ∷ []) (refused.Limit limit.Bound) (n, (c, s, bound), past) file code at f = (have_one_fault language.Hddl d p).none s.read.faultless file code at f
 declined_faultless (to_decode r) (d ∷ p ∷ plan ∷ []) (refused.Limit (limit.Steps n)) (c, steps, s, e, many) file code at f = fault_or_steps r d p plan c steps s file code at f
 declined_faultless (to_decode r) (d ∷ p ∷ plan ∷ []) (refused.Finding (finding.NotTailRecursive words)) (none, (c, steps, s, named)) file code at f = fault_or_steps r d p plan c steps s.spelled file code at f
+declined_faultless (to_decode r) (d ∷ p ∷ plan ∷ []) (refused.Limit limit.Ground) (none, (c, steps, s, past)) file code at f = fault_or_steps r d p plan c steps s.spelled file code at f
 declined_faultless (to_decode r) (d ∷ p ∷ plan ∷ []) (refused.Limit limit.Bound) (none, (c, steps, n, s, bound, past)) file code at f = fault_or_steps r d p plan c steps s.spelled file code at f
 declined_faultless (to_decode r) (d ∷ p ∷ plan ∷ []) (refused.Limit (limit.Slots m)) (none, (c, steps, n, s, bound, past)) file code at f = fault_or_steps r d p plan c steps s.spelled file code at f
 declined_faultless (to_decode r) (d ∷ p ∷ plan ∷ []) (refused.Finding (finding.SpellsNoSolution step why)) (c, steps, slots, source, fails) file code at f = fault_or_steps r d p plan c steps source.spelled.spelled file code at f

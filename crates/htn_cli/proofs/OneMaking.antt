@@ -18,6 +18,8 @@ use Rattle.step_texts.specs.declared.text.StepText.TheVariants.{Whole, TooLong, 
 use Rattle.step_texts.specs.StepTexts.{HasWidth, IsStepText, steps_text}
 use Rattle.encode_answers.specs.EncodeLaws.{AreEncodedAlike, EachIsEncodedOnce, EachIsSpelledOnce, ValuesAreEncodedAlike}
 use Rattle.made_transport.specs.Made.{made_domain}
+use Rattle.ground_answers.specs.GroundLaws.{ValuesHaveOneGroundBound}
+use Rattle.command_words.specs.declared.level.Level.TheVariants.{Lifted}
 use Rattle.command_words.specs.Words.{TranslationRequest, MakeRequest}
 use Rattle.htn_cli.specs.Answer.{Output, Answer, refuses, gives}
 use Rattle.htn_cli.specs.Encoding.{IsFound}
@@ -53,7 +55,7 @@ IsStopped (Whole text) = ⊥
 IsStopped (TooLong n) = ⊥
 IsStopped _ = Unit {0}
 
-module _ (once : EachIsEncodedOnce) (alike : ValuesAreEncodedAlike) (spelled_once : EachIsSpelledOnce) (request : MakeRequest) where
+module _ (once : EachIsEncodedOnce) (alike : ValuesAreEncodedAlike) (spelled_once : EachIsSpelledOnce) (ground : ValuesHaveOneGroundBound) (request : MakeRequest) where
   abbrev p : List ℕ
   p = problem_of request
 
@@ -144,7 +146,7 @@ module _ (once : EachIsEncodedOnce) (alike : ValuesAreEncodedAlike) (spelled_onc
       one_sum x y slots wide more a b (subst (λ z. Sums x slots wide z a) s.1 (subst (λ z. Sums x slots z steps a) s.0 sums)) also
 
   abbrev Comes : Read → Answer → Type 0
-  Comes x = Follows None x.0 (Plans x)
+  Comes x = Follows Lifted None x.0 (Plans x)
 
   module _ (c : Compiled) (bound : ℕ) (source : IsAtBound request c bound) where
     abbrev here : Read
@@ -198,4 +200,4 @@ module _ (once : EachIsEncodedOnce) (alike : ValuesAreEncodedAlike) (spelled_onc
   pub one_made : (a b : Answer) → MakeComes request a → MakeComes request b → TellTheSame a b
   one_made a b is also =
       let x = comes a is in let y = comes b also in
-      one_follows made_domain p Leaf None x.0 y.0 (Plans x.0) (Plans y.0) (one_plan x.0 y.0) a b x.1 y.1
+      one_follows ground Lifted made_domain p Leaf None x.0 y.0 (Plans x.0) (Plans y.0) (one_plan x.0 y.0) a b x.1 y.1

@@ -5,6 +5,7 @@ use Rattle.plan_model.specs.declared.values.Pddl.{Pddl}
 use Rattle.plan_model.specs.declared.values.Compiled.{Compiled}
 use Rattle.plan_texts.specs.PrintedTexts.{domain_text, problem_text}
 use Rattle.slot_encoding.specs.encoded_texts.FullyEncoded.{IsFullyEncoded}
+use Rattle.ground_answers.specs.GroundLaws.{ValuesHaveOneGroundBound}
 use Rattle.command_words.specs.Words.{TranslationRequest}
 use Rattle.htn_cli.specs.Answer.{Output, Answer, refuses, gives}
 use Rattle.htn_cli.specs.OneAnswer.{TellTheSame}
@@ -17,7 +18,7 @@ use Rattle.htn_cli.specs.declared.refusal.Limit.TheVariants as limit
 use Rattle.htn_cli.specs.declared.refusal.Refusal.{Refusal}
 use Rattle.htn_cli.specs.declared.refusal.Refusal.TheVariants as refused
 use Rattle.htn_cli.proofs.OneProblem.{texts_same}
-use Rattle.htn_cli.proofs.OneSlots.{Follows, cycle, out, within, one_follows}
+use Rattle.htn_cli.proofs.OneSlots.{Follows, much, cycle, out, within, one_follows}
 
 one_long : (domain problem : List ℕ) (n m : ℕ) → IsFirstTooLong domain problem n → IsFirstTooLong domain problem m → n ≡ m
 one_long domain problem n m (inl (l, e)) (inl (k, f)) = e ∙ sym f
@@ -75,13 +76,14 @@ module _ (request : TranslationRequest) (d p : List ℕ) where
       record { status = refl; line = refl; output = ap Some same }
 
   abbrev Comes : Source → Answer → Type 0
-  Comes x = Follows request.numeral x.0 (Prints x)
+  Comes x = Follows request.level request.numeral x.0 (Prints x)
 
   printed : (c : Compiled) (slots : ℕ) (a : Answer) (source : IsForSlots request d p c slots) → Prints (c, source.problem_is) slots a → (x : Source) × Comes x a
   printed c slots a source prints = ((c, source.problem_is), within slots a source.slots_are source.some source.few prints)
 
   declines : (refusal : Refusal) → RefusesTranslation request d p refusal → (x : Source) × Comes x (refuses refusal)
   declines (refused.Finding (finding.NotTailRecursive words)) (e, (c, source, named)) = ((c, source), cycle words e named)
+  declines (refused.Limit limit.Ground) (e, (c, source, past)) = ((c, source), much e past)
   declines (refused.Limit limit.Bound) (e, (n, (c, source, bound), past)) = ((c, source), out n (refused.Limit limit.Bound) e bound past)
   declines (refused.Limit (limit.Slots m)) (e, (n, (c, source, bound), past)) = ((c, source), out n (refused.Limit (limit.Slots m)) e bound past)
   declines (refused.Limit (limit.Output n)) (c, slots, source, l) = printed c slots (refuses (refused.Limit (limit.Output n))) source (long n l)
@@ -94,7 +96,8 @@ module _ (request : TranslationRequest) (d p : List ℕ) where
   comes (refuses refusal) is = declines refusal is
   comes (gives output) is = gives_by output is
 
-  pub one_translated : (a b : Answer) → TranslationComes request d p a → TranslationComes request d p b → TellTheSame a b
-  one_translated a b is also =
+  pub one_translated : ValuesHaveOneGroundBound → (a b : Answer) → TranslationComes request d p a → TranslationComes request d p b
+      → TellTheSame a b
+  one_translated alike a b is also =
       let x = comes a is in let y = comes b also in
-      one_follows d p request.checks request.numeral x.0 y.0 (Prints x.0) (Prints y.0) (λ slots some few. same_prints x.0 y.0 slots) a b x.1 y.1
+      one_follows alike request.level d p request.checks request.numeral x.0 y.0 (Prints x.0) (Prints y.0) (λ slots some few. same_prints x.0 y.0 slots) a b x.1 y.1

@@ -9,7 +9,6 @@ use Rattle.command_words.specs.Names.{Word}
 use Rattle.command_words.specs.Words.{DecodeRequest, to_decode, number_of}
 use Rattle.plan_model.specs.declared.steps.GroundAction.{GroundAction}
 use Rattle.plan_model.specs.declared.values.Compiled.{Compiled}
-use Rattle.plan_model.specs.plan_meaning.Bound.{IsBound}
 use Rattle.plan_text.specs.Plans.{IsPlanRead}
 use Rattle.hplan_text.specs.declared.values.HPlan.{HPlan}
 use Rattle.hplan_text.specs.HPlanText.{hplan_text}
@@ -21,6 +20,7 @@ use Rattle.text_answers.proofs.Plans.{plan_told}
 use Rattle.text_values.specs.TextFaults.{IsLeastFault, in_domain, in_problem}
 use Rattle.htn_cli.specs.Answer.{told_alone}
 use Rattle.htn_cli.specs.Decoding.{SpellSteps, SpellFewSteps, IsForSlots}
+use Rattle.htn_cli.specs.Levels.{IsBoundAt}
 use Rattle.htn_cli.specs.LeastFaults.{of_problem, of_third}
 use Rattle.htn_cli.specs.Problem.{SpellProblem}
 use Rattle.htn_cli.specs.Requests.{IsWithin}
@@ -30,7 +30,7 @@ use Rattle.htn_cli.specs.declared.refusal.Limit.TheVariants as limit
 use Rattle.htn_cli.specs.declared.refusal.Refusal.TheVariants as refused
 use Rattle.htn_cli.proofs.Leavings.{positive}
 use Rattle.htn_cli.proofs.SomeInputs.{Finished, declined_texts, given_output, by_fault}
-use Rattle.htn_cli.proofs.SomeProblem.{Fault, Problem, fault_or_problem, BoundOrCycle, bound_or_cycle}
+use Rattle.htn_cli.proofs.SomeProblem.{Fault, Problem, fault_or_problem, Bounded, bound_is, cycle_is, much_is, bounded}
 
 -- a length past the limit is past it as far as it is counted
 past_capped : (n : ℕ) → longest_output < n → longest_output < capped n
@@ -64,28 +64,29 @@ module _ (value : FaultlessHddlHasAValue) (somehow : EachIsDecodedSomehow) (requ
         by_decoding (inl (shown, x)) = by_length shown x (cases_lt longest_output (length (hplan_text shown)))
         by_decoding (inr (n, why, fails)) = declined_texts (refused.Finding (finding.SpellsNoSolution n why)) (c, steps, slots, source, fails)
 
-      decoded : (slots : ℕ) → AreSlotsOf c request.numeral slots → 1 ≤ slots → slots ≤ most_slots → Has
+      decoded : (slots : ℕ) → AreSlotsOf request.level c request.numeral slots → 1 ≤ slots → slots ≤ most_slots → Has
       decoded slots are some few_slots =
           by_decoding slots (record { spelled = within_steps; slots_are = are; some_slot = some; few_slots = few_slots })
           (somehow is.value request.checks c slots steps
           (record { sound = is.read.sound; ordered = is.read.ordered; compiled = is.compiled_is; some_slot = some; few_slots = few_slots }))
 
       -- where no number is given, the bound
-      by_bound : request.numeral ≡ None → (n : ℕ) → IsBound c n → (n < 2 ^ 128) ⊎ (2 ^ 128 ≤ n) → (most_slots < n) ⊎ (n ≤ most_slots) → Has
+      by_bound : request.numeral ≡ None → (n : ℕ) → IsBoundAt request.level c n → (n < 2 ^ 128) ⊎ (2 ^ 128 ≤ n) → (most_slots < n) ⊎ (n ≤ most_slots) → Has
       by_bound none n b (inr past) _ = declined_texts (refused.Limit limit.Bound) (none, (c, steps, n, within_steps, b, past))
       by_bound none n b (inl small) (inl many) = declined_texts (refused.Limit (limit.Slots n)) (none, (c, steps, n, within_steps, b, (refl, many, small)))
-      by_bound none n b (inl small) (inr few_slots) = decoded n (subst (λ o. AreSlotsOf c o n) (sym none) b) (positive c n b) few_slots
+      by_bound none n b (inl small) (inr few_slots) = decoded n (subst (λ o. AreSlotsOf request.level c o n) (sym none) b) (positive request.level c n b) few_slots
 
-      of_bound : request.numeral ≡ None → BoundOrCycle value d p domain_short problem_short request.checks c → Has
-      of_bound none (inr (words, named)) = declined_texts (refused.Finding (finding.NotTailRecursive words)) (none, (c, steps, within_steps, named))
-      of_bound none (inl (n, b)) = by_bound none n b (cases_lt n (2 ^ 128)) (cases_lt most_slots n)
+      of_bound : request.numeral ≡ None → Bounded value d p domain_short problem_short request.checks request.level c → Has
+      of_bound none (much_is past) = declined_texts (refused.Limit limit.Ground) (none, (c, steps, within_steps, past))
+      of_bound none (cycle_is words named) = declined_texts (refused.Finding (finding.NotTailRecursive words)) (none, (c, steps, within_steps, named))
+      of_bound none (bound_is n b) = by_bound none n b (cases_lt n (2 ^ 128)) (cases_lt most_slots n)
 
       by_numeral : IfSome request.numeral IsNumeral → IsWithin (to_decode request) → (o : Option Word) → request.numeral ≡ o → Has
-      by_numeral numbered within None e = of_bound e (bound_or_cycle value d p domain_short problem_short request.checks (c, is))
+      by_numeral numbered within None e = of_bound e (bounded value d p domain_short problem_short request.checks request.level (c, is))
       by_numeral numbered within (Some numeral) e =
           let some = subst (λ o. IfSome o IsNumeral) e numbered in
           let few_slots : number_of numeral ≤ most_slots = subst (λ o. IfSome (option_map number_of o) (λ n. n ≤ most_slots)) e within in
-          decoded (number_of numeral) (subst (λ o. AreSlotsOf c o (number_of numeral)) (sym e) refl) some.above_zero few_slots
+          decoded (number_of numeral) (subst (λ o. AreSlotsOf request.level c o (number_of numeral)) (sym e) refl) some.above_zero few_slots
 
     by_count : IfSome request.numeral IsNumeral → IsWithin (to_decode request) → (most_steps < length steps) ⊎ (length steps ≤ most_steps) → Has
     by_count numbered within (inl many) = declined_texts (refused.Limit (limit.Steps (length steps))) (c, steps, spell, refl, many)

@@ -17,6 +17,7 @@ use Rattle.text_values.specs.TextFaults.{IsLeastFault, in_domain, in_problem}
 use Rattle.made_transport.specs.Made.{made_domain}
 use Rattle.made_transport.proofs.Printed.{made-printable}
 use Rattle.made_transport.proofs.Short.{domain-short, problem-short}
+use Rattle.command_words.specs.declared.level.Level.TheVariants.{Lifted}
 use Rattle.command_words.specs.Words.{TranslationRequest, MakeRequest, to_make}
 use Rattle.htn_cli.specs.Answer.{Output}
 use Rattle.htn_cli.specs.Lines.{summary}
@@ -30,7 +31,7 @@ use Rattle.htn_cli.specs.declared.refusal.Refusal.TheVariants as refused
 use Rattle.htn_cli.proofs.Leavings.{positive}
 use Rattle.htn_cli.proofs.MadePlans.{made_is_sound}
 use Rattle.htn_cli.proofs.SomeInputs.{Finished, declined_texts, given_output, by_fault}
-use Rattle.htn_cli.proofs.SomeProblem.{Fault, Problem, fault_or_problem, BoundOrCycle, bound_or_cycle}
+use Rattle.htn_cli.proofs.SomeProblem.{Fault, Problem, fault_or_problem, Bounded, bound_is, cycle_is, much_is, bounded}
 use Rattle.htn_cli.proofs.SomeTranslation.{prints}
 
 module _ (value : FaultlessHddlHasAValue) (somehow : EachIsEncodedSomehow) (request : MakeRequest) (few : packages request ≤ 819) where
@@ -96,11 +97,12 @@ module _ (value : FaultlessHddlHasAValue) (somehow : EachIsEncodedSomehow) (requ
   by_number : (c : Compiled) (is : SpellProblem made_domain p Leaf c) (n : ℕ) → IsBound c n → (n < 2 ^ 128) ⊎ (2 ^ 128 ≤ n) → (most_slots < n) ⊎ (n ≤ most_slots) → Has
   by_number c is n b (inr past) many = declined_texts (refused.Limit limit.Bound) (refl, (n, (c, is, b), past))
   by_number c is n b (inl small) (inl many) = declined_texts (refused.Limit (limit.Slots n)) (inl (refl, (n, (c, is, b), (refl, many, small))))
-  by_number c is n b (inl small) (inr less) = at_bound c n (record { problem_is = is; slots_are = b; some = positive c n b; few = less })
+  by_number c is n b (inl small) (inr less) = at_bound c n (record { problem_is = is; slots_are = b; some = positive Lifted c n b; few = less })
 
-  by_problem : (x : Source) → BoundOrCycle value made_domain p domain-short short Leaf x.0 → Has
-  by_problem (c, is) (inr (words, named)) = declined_texts (refused.Finding (finding.NotTailRecursive words)) (inl (refl, (c, is, named)))
-  by_problem (c, is) (inl (n, b)) = by_number c is n b (cases_lt n (2 ^ 128)) (cases_lt most_slots n)
+  by_problem : (x : Source) → Bounded value made_domain p domain-short short Leaf Lifted x.0 → Has
+  by_problem (c, is) (much_is past) = absurd past
+  by_problem (c, is) (cycle_is words named) = declined_texts (refused.Finding (finding.NotTailRecursive words)) (inl (refl, (c, is, named)))
+  by_problem (c, is) (bound_is n b) = by_number c is n b (cases_lt n (2 ^ 128)) (cases_lt most_slots n)
 
   by_file : (file code at : ℕ) → IsLeastFault language.Hddl made_domain p file code at → Has
   by_file file code at (in_domain x) = by_fault (to_make request) [] 0 (codes "domain") at code refl (in_domain x)
@@ -108,7 +110,7 @@ module _ (value : FaultlessHddlHasAValue) (somehow : EachIsEncodedSomehow) (requ
 
   by_meaning : Fault value made_domain p domain-short short Leaf ⊎ Source → Has
   by_meaning (inl (file, code, at, x)) = by_file file code at x
-  by_meaning (inr x) = by_problem x (bound_or_cycle value made_domain p domain-short short Leaf x)
+  by_meaning (inr x) = by_problem x (bounded value made_domain p domain-short short Leaf Lifted x)
 
   pub making_finished : Has
   making_finished = by_meaning (fault_or_problem value made_domain p domain-short short Leaf)

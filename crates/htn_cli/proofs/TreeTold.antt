@@ -16,6 +16,7 @@ use Rattle.decoding.proofs.ReadSteps.{each_is_solution_or_fails}
 use Rattle.decoding.proofs.SoundCompiled.{compiled_are_read_in_one_way}
 use Rattle.hplan_text.specs.ShownSolutions.{HaveText}
 use Rattle.decode_answers.specs.DecodeLaws.{IsDecodable, AreDecodedAlike, ValuesAreDecodedAlike}
+use Rattle.ground_answers.specs.GroundLaws.{ValuesHaveOneGroundBound}
 use Rattle.command_words.specs.Words.{DecodeRequest}
 use Rattle.htn_cli.specs.Decoding.{IsForSlots}
 use Rattle.htn_cli.specs.Problem.{SpellProblem}
@@ -24,17 +25,18 @@ use Rattle.htn_cli.specs.Sent.{TakesWhole, Told}
 use Rattle.htn_cli.specs.promise.Tree.{AreDecoded, TellsTree, TellsNoSolution}
 use Rattle.htn_cli.specs.declared.refusal.Finding.TheVariants as finding
 use Rattle.htn_cli.specs.declared.refusal.Refusal.TheVariants as refused
-use Rattle.htn_cli.proofs.EachProblem.{slots_given, slots_computed, bound_of_each, faithful_of_each, each_faithful, solution_here}
+use Rattle.htn_cli.proofs.EachProblem.{slots_given, slots_computed, bound_at_each, faithful_of_each, each_faithful, solution_here}
 
-module _ (alike : ValuesAreDecodedAlike) (request : DecodeRequest) (d p plan : List ℕ) (c : Compiled) (steps : List GroundAction) (slots : ℕ) (is : IsForSlots request d p plan c steps slots) where
+module _ (alike : ValuesAreDecodedAlike) (ground : ValuesHaveOneGroundBound) (request : DecodeRequest) (d p plan : List ℕ) (c : Compiled) (steps : List GroundAction) (slots : ℕ) (is : IsForSlots request d p plan c steps slots) where
   abbrev source : SpellProblem d p request.checks c
   source = is.spelled.spelled.problem_is
 
   decoded : AreDecoded request d p plan steps slots
   decoded = record {
     spelled = is.spelled.spelled.list.spelled;
-    given = slots_given c slots request.numeral is.slots_are;
-    computed = λ none. bound_of_each d p request.checks c source slots (slots_computed c slots request.numeral none is.slots_are);
+    given = slots_given request.level c slots request.numeral is.slots_are;
+    computed = λ none.
+        bound_at_each d p request.checks c source ground request.level slots (slots_computed request.level c slots request.numeral none is.slots_are);
   }
 
   decodable : IsDecodable source.value request.checks c slots

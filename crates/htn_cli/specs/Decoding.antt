@@ -5,9 +5,7 @@ use Rattle.htn_base.specs.Limits.{most_slots, most_steps, longest_output}
 use Rattle.text_forms.specs.sheets.Sheets.{capped}
 use Rattle.plan_model.specs.declared.steps.GroundAction.{GroundAction}
 use Rattle.plan_model.specs.declared.values.Compiled.{Compiled}
-use Rattle.plan_model.specs.plan_meaning.Bound.{IsBound}
 use Rattle.plan_text.specs.Plans.{IsPlanRead}
-use Rattle.bound_calc.specs.NoBound.{NamesCycle}
 use Rattle.decoding.specs.PrintedSteps.{FailsAt}
 use Rattle.hplan_text.specs.ShownSolutions.{HaveText}
 use Rattle.command_words.specs.Words.{DecodeRequest}
@@ -19,6 +17,7 @@ use Rattle.htn_cli.specs.declared.refusal.Finding.TheVariants as finding
 use Rattle.htn_cli.specs.declared.refusal.Limit.TheVariants as limit
 use Rattle.htn_cli.specs.declared.refusal.Refusal.{Refusal}
 use Rattle.htn_cli.specs.declared.refusal.Refusal.TheVariants as refused
+use Rattle.htn_cli.specs.Levels.{IsBoundAt, NamesCycleAt, IsPastCount}
 
 module _ (request : DecodeRequest) (domain problem plan : List ℕ) where
   -- the texts have no fault, and spell a problem and a list of steps
@@ -34,14 +33,14 @@ module _ (request : DecodeRequest) (domain problem plan : List ℕ) where
   -- and are decoded with so many slots
   pub record IsForSlots (compiled : Compiled) (steps : List GroundAction) (slots : ℕ) : Type 0 where
     pub spelled : SpellFewSteps compiled steps
-    pub slots_are : AreSlotsOf compiled request.numeral slots
+    pub slots_are : AreSlotsOf request.level compiled request.numeral slots
     pub some_slot : 1 ≤ slots
     pub few_slots : slots ≤ most_slots
 
   -- the bound of the problem, where no number of slots is given, is past a limit
   abbrev pub RefusesBoundOf : Refusal → Type 0
   RefusesBoundOf refusal = (request.numeral ≡ None)
-      × ((compiled : Compiled) × (steps : List GroundAction) × (n : ℕ) × SpellFewSteps compiled steps × IsBound compiled n
+      × ((compiled : Compiled) × (steps : List GroundAction) × (n : ℕ) × SpellFewSteps compiled steps × IsBoundAt request.level compiled n
       × RefusesSlots most_slots n refusal)
 
   -- the refusals of texts without a fault
@@ -49,7 +48,9 @@ module _ (request : DecodeRequest) (domain problem plan : List ℕ) where
   RefusesDecode (refused.Limit (limit.Steps n)) =
       (compiled : Compiled) × (steps : List GroundAction) × SpellSteps compiled steps × (n ≡ length steps) × (most_steps < n)
   RefusesDecode (refused.Finding (finding.NotTailRecursive words)) = (request.numeral ≡ None)
-      × ((compiled : Compiled) × (steps : List GroundAction) × SpellFewSteps compiled steps × NamesCycle compiled words)
+      × ((compiled : Compiled) × (steps : List GroundAction) × SpellFewSteps compiled steps × NamesCycleAt request.level compiled words)
+  RefusesDecode (refused.Limit limit.Ground) =
+      (request.numeral ≡ None) × ((compiled : Compiled) × (steps : List GroundAction) × SpellFewSteps compiled steps × IsPastCount request.level compiled)
   RefusesDecode (refused.Limit limit.Bound) = RefusesBoundOf (refused.Limit limit.Bound)
   RefusesDecode (refused.Limit (limit.Slots n)) = RefusesBoundOf (refused.Limit (limit.Slots n))
   RefusesDecode (refused.Finding (finding.SpellsNoSolution step why)) =

@@ -7,6 +7,7 @@ pub mod Requests
 pub mod Inputs
 pub mod Answer
 pub mod Slots
+pub mod Levels
 pub mod Problem
 pub mod Texts
 pub mod Translation

@@ -48,12 +48,12 @@ module _ (request : TranslationRequest) where
   -- with the number of slots that is given, or else computed
   module _ (compiled : Compiled) (number : Option ℕ) where
     abbrev pub IsMadeFor : Made → Type 0
-    IsMadeFor made = (slots : ℕ) × IsChosen compiled number slots × IsMadeWith compiled slots made
+    IsMadeFor made = (slots : ℕ) × IsChosen request.level compiled number slots × IsMadeWith compiled slots made
 
     abbrev pub StopsMadeFor : Refusal → Type 0
     StopsMadeFor refusal =
-        StopsChosen compiled number refusal
-        ⊎ ((slots : ℕ) × IsChosen compiled number slots × StopsPrinted compiled (manner_of slots) refusal)
+        StopsChosen request.level compiled number refusal
+        ⊎ ((slots : ℕ) × IsChosen request.level compiled number slots × StopsPrinted compiled (manner_of slots) refusal)
 
 -- what was made is the answer to a request, and nothing was written yet
 pub record GivesOutput (request : Request) (old new : FilesState) (made : Made) : Type 0 where

@@ -22,6 +22,7 @@ use Rattle.htn_cli.specs.declared.refusal.Failure.TheVariants as failure
 use Rattle.htn_cli.specs.declared.refusal.Limit.TheVariants as limit
 use Rattle.htn_cli.specs.declared.refusal.Refusal.{Refusal}
 use Rattle.htn_cli.specs.declared.refusal.Refusal.TheVariants as refused
+use Rattle.command_words.specs.declared.level.Level.TheVariants.{Lifted}
 
 -- a request without inputs that gives no output
 abbrev pub StopsAlone : Request → Refusal → Type 0
@@ -61,7 +62,7 @@ module _ (request : MakeRequest) (compiled : Compiled) (plan : HPlan) where
 
   -- and with as many as the bound
   abbrev pub IsMadeAtBound : Made → Type 0
-  IsMadeAtBound made = (bound : ℕ) × IsComputed compiled bound × IsSummedUp bound made
+  IsMadeAtBound made = (bound : ℕ) × IsComputed Lifted compiled bound × IsSummedUp bound made
 
   abbrev pub StopsAtBound : Refusal → Type 0
-  StopsAtBound refusal = StopsComputed compiled refusal ⊎ ((bound : ℕ) × IsComputed compiled bound × StopsSummingUp bound refusal)
+  StopsAtBound refusal = StopsComputed Lifted compiled refusal ⊎ ((bound : ℕ) × IsComputed Lifted compiled bound × StopsSummingUp bound refusal)

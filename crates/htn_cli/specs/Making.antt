@@ -19,6 +19,7 @@ use Rattle.htn_cli.specs.Translation.{IsForSlots, AreWritten, RefusesTranslation
 use Rattle.htn_cli.specs.declared.refusal.Limit.TheVariants as limit
 use Rattle.htn_cli.specs.declared.refusal.Refusal.{Refusal}
 use Rattle.htn_cli.specs.declared.refusal.Refusal.TheVariants as refused
+use Rattle.command_words.specs.declared.level.Level.TheVariants.{Lifted}
 
 -- so many steps spell the latest schedule of a plan with as many slots as it is wide
 abbrev pub IsCounted : Compiled → HPlan → (width steps : ℕ) → Type 0
@@ -46,6 +47,7 @@ module _ (request : MakeRequest) where
           printed_problem = request.printed_problem;
         };
     numeral = None;
+    level = Lifted;
     style = Adl;
     checks = Leaf;
   }

@@ -4,10 +4,10 @@ use Rattle.std.specs.Prelude.{ℕ, List}
 use Rattle.plan_model.specs.declared.options.Checks.{Checks}
 use Rattle.plan_model.specs.declared.values.Hddl.{Hddl}
 use Rattle.plan_model.specs.declared.values.Compiled.{Compiled}
-use Rattle.plan_model.specs.plan_meaning.Bound.{IsBound}
 use Rattle.plan_model.specs.plan_meaning.Compilation.{IsCompiled}
-use Rattle.bound_calc.specs.NoBound.{NamesCycle}
 use Rattle.text_values.specs.Values.{IsValueOf}
+use Rattle.htn_cli.specs.Levels.{IsBoundAt, NamesCycleAt, IsPastCount}
+use Rattle.command_words.specs.declared.level.Level.{Level}
 
 module _ (domain problem : List ℕ) (checks : Checks) where
   -- they spell a problem: this is its compiled value
@@ -16,10 +16,16 @@ module _ (domain problem : List ℕ) (checks : Checks) where
     pub read : IsValueOf domain problem value
     pub compiled_is : IsCompiled value checks compiled
 
-  -- they spell a problem with this bound
-  abbrev pub HaveBound : ℕ → Type 0
-  HaveBound n = (compiled : Compiled) × SpellProblem compiled × IsBound compiled n
+  -- at a level
+  module _ (level : Level) where
+    -- they spell a problem with this bound
+    abbrev pub HaveBound : ℕ → Type 0
+    HaveBound n = (compiled : Compiled) × SpellProblem compiled × IsBoundAt level compiled n
 
-  -- they spell a problem whose bad cycle that is named has these words
-  abbrev pub HaveCycle : List ℕ → Type 0
-  HaveCycle words = (compiled : Compiled) × SpellProblem compiled × NamesCycle compiled words
+    -- they spell a problem whose bad cycle that is named has these words
+    abbrev pub HaveCycle : List ℕ → Type 0
+    HaveCycle words = (compiled : Compiled) × SpellProblem compiled × NamesCycleAt level compiled words
+
+    -- they spell a problem of which more is reached than is counted
+    abbrev pub HaveTooMuch : Type 0
+    HaveTooMuch = (compiled : Compiled) × SpellProblem compiled × IsPastCount level compiled

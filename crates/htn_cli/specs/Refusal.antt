@@ -52,6 +52,7 @@ counted_word Types = codes "types"
 
 abbrev pub limit_word : Limit → List ℕ
 limit_word limit.Bound = codes "bound"
+limit_word limit.Ground = codes "ground"
 limit_word (limit.Slots n) = codes "slots"
 limit_word (limit.Bytes name) = codes "bytes"
 limit_word (limit.Text counted place) = counted_word counted
@@ -62,6 +63,7 @@ limit_word (limit.Output n) = codes "output"
 -- and what is told of it: how much there is, or in which file, or where
 abbrev pub limit_extent : Limit → List ℕ
 limit_extent limit.Bound = []
+limit_extent limit.Ground = []
 limit_extent (limit.Slots n) = codes " " ++ decimal n
 limit_extent (limit.Bytes name) = codes " " ++ name.now
 limit_extent (limit.Text counted place) = codes " " ++ place_text place

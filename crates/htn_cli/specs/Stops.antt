@@ -39,6 +39,8 @@ use Rattle.htn_cli.specs.declared.refusal.Finding.TheVariants as finding
 use Rattle.htn_cli.specs.declared.refusal.Limit.TheVariants as limit
 use Rattle.htn_cli.specs.declared.refusal.Refusal.{Refusal}
 use Rattle.htn_cli.specs.declared.refusal.Refusal.TheVariants as refused
+use Rattle.htn_cli.specs.Levels.{IsBoundAt, NamesCycleAt, IsPastCount}
+use Rattle.command_words.specs.declared.level.Level.{Level}
 
 -- an input that was read, with all its bytes
 pub record GivesInput (name : Word) (old new : FilesState) (bytes : List ℕ) : Type 0 where
@@ -101,11 +103,12 @@ StopsFor names value plan refusal = (domain problem : List ℕ)
     → pddl.IsValueOf domain problem value → StopsPlan names domain problem plan refusal
 
 -- a bound that was not computed
-abbrev pub StopsBound : Compiled → Refusal → Type 0
-StopsBound compiled (refused.Finding (finding.NotTailRecursive words)) = NamesCycle compiled words
-StopsBound compiled (refused.Limit limit.Bound) = (n : ℕ) × IsBound compiled n × (2 ^ 128 ≤ n)
-StopsBound compiled (refused.Failure failure.Memory) = Unit {0}
-StopsBound compiled _ = ⊥
+abbrev pub StopsBound : Level → Compiled → Refusal → Type 0
+StopsBound level compiled (refused.Finding (finding.NotTailRecursive words)) = NamesCycleAt level compiled words
+StopsBound level compiled (refused.Limit limit.Ground) = IsPastCount level compiled
+StopsBound level compiled (refused.Limit limit.Bound) = (n : ℕ) × IsBoundAt level compiled n × (2 ^ 128 ≤ n)
+StopsBound level compiled (refused.Failure failure.Memory) = Unit {0}
+StopsBound level compiled _ = ⊥
 
 -- so many slots, which are printed
 pub record AreSlots (n slots : ℕ) : Type 0 where
@@ -125,11 +128,12 @@ StopsGiven (Some numeral) refusal = RefusesSlots most_slots (number_of numeral) 
 StopsGiven None refusal = ⊥
 
 -- the bound of the problem, as a number of slots
-abbrev pub IsComputed : Compiled → ℕ → Type 0
-IsComputed compiled slots = (n : ℕ) × IsBound compiled n × AreSlots n slots
+abbrev pub IsComputed : Level → Compiled → ℕ → Type 0
+IsComputed level compiled slots = (n : ℕ) × IsBoundAt level compiled n × AreSlots n slots
 
-abbrev pub StopsComputed : Compiled → Refusal → Type 0
-StopsComputed compiled refusal = StopsBound compiled refusal ⊎ ((n : ℕ) × IsBound compiled n × RefusesSlots most_slots n refusal)
+abbrev pub StopsComputed : Level → Compiled → Refusal → Type 0
+StopsComputed level compiled refusal =
+    StopsBound level compiled refusal ⊎ ((n : ℕ) × IsBoundAt level compiled n × RefusesSlots most_slots n refusal)
 
 -- a text that was not made
 abbrev pub StopsPrinted : Compiled → Manner → Refusal → Type 0
@@ -143,13 +147,13 @@ IsWant (refused.Failure failure.Memory) = Unit {0}
 IsWant _ = ⊥
 
 -- the number of slots, given or computed
-abbrev pub IsChosen : Compiled → Option ℕ → ℕ → Type 0
-IsChosen compiled (Some given) slots = slots ≡ given
-IsChosen compiled None slots = IsComputed compiled slots
+abbrev pub IsChosen : Level → Compiled → Option ℕ → ℕ → Type 0
+IsChosen level compiled (Some given) slots = slots ≡ given
+IsChosen level compiled None slots = IsComputed level compiled slots
 
-abbrev pub StopsChosen : Compiled → Option ℕ → Refusal → Type 0
-StopsChosen compiled (Some given) refusal = ⊥
-StopsChosen compiled None refusal = StopsComputed compiled refusal
+abbrev pub StopsChosen : Level → Compiled → Option ℕ → Refusal → Type 0
+StopsChosen level compiled (Some given) refusal = ⊥
+StopsChosen level compiled None refusal = StopsComputed level compiled refusal
 
 -- a number of slots that may be asked for
 abbrev pub IsInRange : ℕ → Type 0
@@ -168,12 +172,12 @@ StopsTreeWith compiled slots steps (refused.Limit (limit.Output n)) =
 StopsTreeWith compiled slots steps (refused.Failure failure.Memory) = Unit {0}
 StopsTreeWith compiled slots steps _ = ⊥
 
--- the number of slots is the given one, or else the bound
-module _ (compiled : Compiled) (given : Option ℕ) where
+-- the number of slots is the given one, or else the bound at the level
+module _ (level : Level) (compiled : Compiled) (given : Option ℕ) where
   -- the text of the tree that steps spell
   abbrev pub IsTreeFor : List GroundAction → List ℕ → Type 0
   IsTreeFor steps text =
-      (slots : ℕ) × (length steps ≤ most_steps) × IsChosen compiled given slots × HaveText compiled slots steps text
+      (slots : ℕ) × (length steps ≤ most_steps) × IsChosen level compiled given slots × HaveText compiled slots steps text
       × (length text ≤ longest_output)
 
   -- steps without this text
@@ -181,8 +185,8 @@ module _ (compiled : Compiled) (given : Option ℕ) where
   StopsTree steps refusal =
       StopsSteps steps refusal
       ⊎ ((length steps ≤ most_steps)
-      × (StopsChosen compiled given refusal
-      ⊎ ((slots : ℕ) × IsChosen compiled given slots × StopsTreeWith compiled slots steps refusal)))
+      × (StopsChosen level compiled given refusal
+      ⊎ ((slots : ℕ) × IsChosen level compiled given slots × StopsTreeWith compiled slots steps refusal)))
 
   -- and that of the steps of a text
   abbrev pub IsToldFor : (plan text : List ℕ) → Type 0

@@ -3,12 +3,11 @@
 use Rattle.std.specs.Prelude.{ℕ, ◌≡◌, ◌≤◌, List, [], ◌∷◌, Option, Some, None}
 use Rattle.htn_base.specs.Limits.{most_slots}
 use Rattle.plan_model.specs.declared.values.Compiled.{Compiled}
-use Rattle.plan_model.specs.plan_meaning.Bound.{IsBound}
 use Rattle.command_words.specs.Names.{Word, Names}
 use Rattle.command_words.specs.Words.{TranslationRequest, number_of}
 use Rattle.htn_cli.specs.Answer.{Text, Output}
 use Rattle.htn_cli.specs.Lines.{slots_line}
-use Rattle.htn_cli.specs.Problem.{SpellProblem, HaveBound, HaveCycle}
+use Rattle.htn_cli.specs.Problem.{SpellProblem, HaveBound, HaveCycle, HaveTooMuch}
 use Rattle.htn_cli.specs.Slots.{RefusesSlots}
 use Rattle.htn_cli.specs.Texts.{Texts, AreTranslated, AreTooLong}
 use Rattle.htn_cli.specs.declared.manner.Manner.{Manner}
@@ -16,11 +15,13 @@ use Rattle.htn_cli.specs.declared.refusal.Finding.TheVariants as finding
 use Rattle.htn_cli.specs.declared.refusal.Limit.TheVariants as limit
 use Rattle.htn_cli.specs.declared.refusal.Refusal.{Refusal}
 use Rattle.htn_cli.specs.declared.refusal.Refusal.TheVariants as refused
+use Rattle.htn_cli.specs.Levels.{IsBoundAt}
+use Rattle.command_words.specs.declared.level.Level.{Level}
 
--- so many slots are printed: the number that is given, or else the bound of the problem
-abbrev pub AreSlotsOf : Compiled → Option Word → ℕ → Type 0
-AreSlotsOf compiled (Some numeral) n = n ≡ number_of numeral
-AreSlotsOf compiled None n = IsBound compiled n
+-- so many slots are printed: the number that is given, or else the bound of the problem at the level
+abbrev pub AreSlotsOf : Level → Compiled → Option Word → ℕ → Type 0
+AreSlotsOf level compiled (Some numeral) n = n ≡ number_of numeral
+AreSlotsOf level compiled None n = IsBoundAt level compiled n
 
 -- both texts for the files of these names
 abbrev pub texts_for : Names → Texts → List Text
@@ -38,7 +39,7 @@ module _ (request : TranslationRequest) (domain problem : List ℕ) where
   -- the problem is printed with so many slots
   pub record IsForSlots (compiled : Compiled) (slots : ℕ) : Type 0 where
     pub problem_is : SpellProblem domain problem request.checks compiled
-    pub slots_are : AreSlotsOf compiled request.numeral slots
+    pub slots_are : AreSlotsOf request.level compiled request.numeral slots
     pub some : 1 ≤ slots
     pub few : slots ≤ most_slots
 
@@ -50,12 +51,15 @@ module _ (request : TranslationRequest) (domain problem : List ℕ) where
 
   -- the bound of the problem, where no number of slots is given, is past a limit
   abbrev pub RefusesBoundOf : Refusal → Type 0
-  RefusesBoundOf refusal = (request.numeral ≡ None) × ((n : ℕ) × HaveBound domain problem request.checks n × RefusesSlots most_slots n refusal)
+  RefusesBoundOf refusal =
+      (request.numeral ≡ None) × ((n : ℕ) × HaveBound domain problem request.checks request.level n × RefusesSlots most_slots n refusal)
 
   -- the refusals of texts without a fault
   abbrev pub RefusesTranslation : Refusal → Type 0
   RefusesTranslation (refused.Finding (finding.NotTailRecursive words)) =
-      (request.numeral ≡ None) × HaveCycle domain problem request.checks words
+      (request.numeral ≡ None) × HaveCycle domain problem request.checks request.level words
+  RefusesTranslation (refused.Limit limit.Ground) =
+      (request.numeral ≡ None) × HaveTooMuch domain problem request.checks request.level
   RefusesTranslation (refused.Limit limit.Bound) = RefusesBoundOf (refused.Limit limit.Bound)
   RefusesTranslation (refused.Limit (limit.Slots n)) = RefusesBoundOf (refused.Limit (limit.Slots n))
   RefusesTranslation (refused.Limit (limit.Output n)) =

@@ -59,7 +59,7 @@ fn bounded<'a>(
         (words.to_bound (words.bound_of asked.now)) (domain.now ∷ problem.now ∷ [])) }
 {
     let compiled = compiled_from(alloc, domain, problem, &asked.checks, asked.d, asked.p)?;
-    let bound = bound_of(alloc, &compiled);
+    let bound = bound_of(alloc, &compiled, asked.level);
     drop(compiled);
     output_with(alloc, bound?)
 }

@@ -16,7 +16,7 @@ use crate::problem::compiled_from;
 use crate::reading::{read, read_two};
 use crate::refusal::{Failure, Finding, Limit, Refusal};
 use crate::slots::{given_slots, slots_for};
-use command_words::Decoding;
+use command_words::{Decoding, Level};
 use htn_base::limits::{LONGEST_OUTPUT, MOST_STEPS};
 use htn_base::{Memory, Text};
 use outside_io::Files;
@@ -101,13 +101,13 @@ fn told_of<'a>(
     requires soundly { IsSoundlyCompiled compiled.now }
     requires given { IfSome given IsInRange }
     requires plan_short { length plan.now ≤ longest_input }
-    ensures told { IfOk result (IsToldFor compiled.now given plan.now) }
-    ensures refused { IfErr result (StopsTelling compiled.now given
+    ensures told { IfOk result (IsToldFor asked.now.level compiled.now given plan.now) }
+    ensures refused { IfErr result (StopsTelling asked.now.level compiled.now given
         (asked.now.d.now ∷ asked.now.p.now ∷ asked.now.plan.now ∷ []) plan.now) }
 {
     match Plan::new(alloc, plan, PLAN_FILE) {
         Ok(plan) => {
-            let told = text_for(alloc, given, compiled, &plan);
+            let told = text_for(alloc, given, asked.level, compiled, &plan);
             drop(plan);
             told
         }
@@ -122,22 +122,23 @@ fn told_of<'a>(
     }
 }
 
-/// The text of the tree that a plan spells with the given number of slots, or else as many as the bound.
+/// The text of the tree that a plan spells with the given number of slots, or else as many as the bound at a level.
 fn text_for<'a>(
     alloc: Global,
     given: Option<u32>,
+    level: Level,
     compiled: &Compiled,
     plan: &Plan<'_>,
 ) -> Result<Text, Refusal<'a>>
     requires soundly { IsSoundlyCompiled compiled.now }
     requires given { IfSome given IsInRange }
-    ensures told { IfOk result (IsTreeFor compiled.now given plan.now) }
-    ensures refused { IfErr result (StopsTree compiled.now given plan.now) }
+    ensures told { IfOk result (IsTreeFor level compiled.now given plan.now) }
+    ensures refused { IfErr result (StopsTree level compiled.now given plan.now) }
 {
     if plan.len() > MOST_STEPS as usize {
         return Err(Refusal::Limit(Limit::Steps(plan.len())));
     }
-    let slots = slots_for(alloc, compiled, given)?;
+    let slots = slots_for(alloc, compiled, given, level)?;
     match tree_text(alloc, compiled, slots, plan, LONGEST_OUTPUT) {
         Ok(TreeText::Whole(text)) => Ok(text),
         Ok(TreeText::TooLong(size)) => Err(Refusal::Limit(Limit::Output(size))),

@@ -18,7 +18,7 @@ use crate::output::{Counts, Output, Written, summary_told};
 use crate::problem::compiled_from;
 use crate::refusal::{Failure, Finding, Limit, Refusal};
 use crate::slots::slots_for;
-use command_words::{Making, count_of};
+use command_words::{Level, Making, count_of};
 use hplan_text::HPlan;
 use htn_base::Memory;
 use made_transport::{Made, made};
@@ -102,7 +102,7 @@ fn output_at_bound<'a>(
     ensures differ { IfOk result NamesDiffer }
     ensures refused { IfErr result (StopsAtBound (make_of asked.now) compiled.now plan.now) }
 {
-    let bound = slots_for(alloc, compiled, None)?;
+    let bound = slots_for(alloc, compiled, None, Level::Lifted)?;
     summed_up(alloc, asked, compiled, plan, bound)
 }
 

@@ -1,9 +1,9 @@
 ghost use Rattle.std.specs.Prelude.{◌≡◌, ◌<◌, ◌≤◌, [], ◌∷◌, length, slice_get, Some, IfOk, IfErr};
 ghost use Rattle.htn_base.specs.Limits.{longest_input};
-ghost use Rattle.plan_model.specs.plan_meaning.Bound.{IsBound};
 ghost use Rattle.plan_texts.specs.SoundlyCompiled.{IsSoundlyCompiled};
 ghost use Rattle.hddl_reader.specs.declared.sections.Language.TheVariants as language;
 ghost use Rattle.text_values.specs.TextFaults.{IsLeastFault};
+ghost use Rattle.htn_cli.specs.Levels.{IsBoundAt};
 ghost use Rattle.htn_cli.specs.Problem.{SpellProblem};
 ghost use Rattle.htn_cli.specs.Stops.{StopsBound, StopsFault};
 
@@ -11,7 +11,9 @@ use crate::faults::{Place, refusal_for};
 use crate::refusal::{Failure, Finding, Limit, Refusal};
 use bound_calc::method_precs::compile;
 use bound_calc::{NoBound, problem_bound};
-use htn_base::Fault;
+use command_words::Level;
+use ground_bound::{GroundError, ground_bound, ground_cycle_words};
+use htn_base::{Fault, Memory};
 use plan_model::{Checks, Compiled};
 use std::alloc::Global;
 use text_forms::sexpr_text::ReadError;
@@ -55,16 +57,54 @@ fn place_of<'a>(fault: Fault, d: &'a str, p: &'a str) -> Place<'a>
     Place { name, at: fault.at }
 }
 
-/// The bound of a compiled problem.
-pub(crate) fn bound_of<'a>(alloc: Global, compiled: &Compiled) -> Result<u128, Refusal<'a>>
+/// The bound of a compiled problem at a level.
+pub(crate) fn bound_of<'a>(
+    alloc: Global,
+    compiled: &Compiled,
+    level: Level,
+) -> Result<u128, Refusal<'a>>
     requires soundly { IsSoundlyCompiled compiled.now }
-    ensures bound { IfOk result (IsBound compiled.now) }
-    ensures refused { IfErr result (StopsBound compiled.now) }
+    ensures bound { IfOk result (IsBoundAt level compiled.now) }
+    ensures refused { IfErr result (StopsBound level compiled.now) }
+{
+    match level {
+        Level::Lifted => lifted_bound(alloc, compiled),
+        Level::Ground => bound_of_reached(alloc, compiled),
+    }
+}
+
+/// The bound of its schemas.
+fn lifted_bound<'a>(alloc: Global, compiled: &Compiled) -> Result<u128, Refusal<'a>>
+    requires soundly { IsSoundlyCompiled compiled.now }
+    ensures bound { IfOk result (IsBoundAt Level.Lifted compiled.now) }
+    ensures refused { IfErr result (StopsBound Level.Lifted compiled.now) }
 {
     match problem_bound(alloc, compiled) {
         Ok(number) => Ok(number),
         Err(NoBound::Cycle(words)) => Err(Refusal::Finding(Finding::NotTailRecursive(words))),
         Err(NoBound::Past128) => Err(Refusal::Limit(Limit::Bound)),
         Err(NoBound::Memory) => Err(Refusal::Failure(Failure::Memory)),
+    }
+}
+
+/// The bound over what is reached of it.
+fn bound_of_reached<'a>(alloc: Global, compiled: &Compiled) -> Result<u128, Refusal<'a>>
+    requires soundly { IsSoundlyCompiled compiled.now }
+    ensures bound { IfOk result (IsBoundAt Level.Ground compiled.now) }
+    ensures refused { IfErr result (StopsBound Level.Ground compiled.now) }
+{
+    match ground_bound(alloc, compiled) {
+        Ok(number) => Ok(number),
+        Err(GroundError::TooMany) => Err(Refusal::Limit(Limit::Ground)),
+        Err(GroundError::Cycle(edges)) => {
+            let words = ground_cycle_words(alloc, compiled, edges.as_slice());
+            drop(edges);
+            match words {
+                Ok(words) => Err(Refusal::Finding(Finding::NotTailRecursive(words))),
+                Err(Memory) => Err(Refusal::Failure(Failure::Memory)),
+            }
+        }
+        Err(GroundError::Past128) => Err(Refusal::Limit(Limit::Bound)),
+        Err(GroundError::Memory) => Err(Refusal::Failure(Failure::Memory)),
     }
 }

@@ -28,6 +28,7 @@ use crate::validation::validation;
 use command_words::{Asked, asked};
 use decode_answers::values_are_decoded_alike;
 use encode_answers::{no_width_is_past_the_bound, values_are_encoded_alike};
+use ground_answers::values_have_one_ground_bound;
 use outside_io::{Files, Sink};
 use std::alloc::Global;
 
@@ -101,6 +102,7 @@ pub fn run<F: Files, O: Sink, E: Sink>(
     values_are_decoded_alike();
     values_are_encoded_alike();
     no_width_is_past_the_bound();
+    values_have_one_ground_bound();
     match act(alloc, words, files, out) {
         Ok(()) => Status::Done,
         Err(refusal) => {
@@ -131,6 +133,7 @@ fn act<'a, F: Files, O: Sink>(
     values_are_decoded_alike();
     values_are_encoded_alike();
     no_width_is_past_the_bound();
+    values_have_one_ground_bound();
     match asked(words) {
         None => Err(Refusal::Words),
         Some(asked) => perform(alloc, &asked, files, out),

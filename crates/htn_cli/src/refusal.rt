@@ -27,6 +27,8 @@ pub enum Refusal<'a> {
 pub enum Limit<'a> {
     /// The number of slots, or the bound, is 2^128 or more.
     Bound,
+    /// More ground tasks, actions and methods are reached together than are counted.
+    Ground,
     /// There are more slots than are printed: so many.
     Slots(u128),
     /// An input text has too many bytes.
@@ -44,7 +46,7 @@ pub enum Limit<'a> {
 /// What a command found.
 #[derive(Drop)]
 pub enum Finding {
-    /// The problem is not tail-recursive: the words of the named bad cycle, each behind a space.
+    /// The problem is not tail-recursive, or not in what is reached: the words of the named bad cycle, each behind a space.
     NotTailRecursive(Text),
     /// The list is no plan: the first step that fails, counted from 1, and its first cause.
     NotAPlan(u32, FailWhy),
@@ -150,6 +152,7 @@ impl Limit<'_> {
     {
         let (before, middle, after) = match self {
             Limit::Bound => ("limit bound\n", Middle::Words(b""), ""),
+            Limit::Ground => ("limit ground\n", Middle::Words(b""), ""),
             Limit::Slots(slots) => ("limit slots ", Middle::Number(*slots), "\n"),
             Limit::Bytes(name) => ("limit bytes ", Middle::Words(name.as_bytes()), "\n"),
             Limit::Text(counted, place) => (limit_start(*counted), Middle::Place(*place), "\n"),

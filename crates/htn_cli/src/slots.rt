@@ -8,7 +8,7 @@ ghost use Rattle.htn_cli.specs.Stops.{AreSlots, IsChosen, IsComputed, IsGiven, S
 
 use crate::problem::bound_of;
 use crate::refusal::{Limit, Refusal};
-use command_words::{Bound, comes_to};
+use command_words::{Bound, Level, comes_to};
 use plan_model::Compiled;
 use std::alloc::Global;
 
@@ -27,28 +27,33 @@ pub(crate) fn given_slots<'a>(numeral: Option<&'a str>) -> Result<Option<u32>, R
     }
 }
 
-/// The given number of slots, or else the bound of the problem.
+/// The given number of slots, or else the bound of the problem at a level.
 pub(crate) fn slots_for<'a>(
     alloc: Global,
     compiled: &Compiled,
     given: Option<u32>,
+    level: Level,
 ) -> Result<u32, Refusal<'a>>
     requires soundly { IsSoundlyCompiled compiled.now }
-    ensures slots { IfOk result (IsChosen compiled.now given) }
-    ensures refused { IfErr result (StopsChosen compiled.now given) }
+    ensures slots { IfOk result (IsChosen level compiled.now given) }
+    ensures refused { IfErr result (StopsChosen level compiled.now given) }
 {
     match given {
         Some(slots) => Ok(slots),
-        None => computed_slots(alloc, compiled),
+        None => computed_slots(alloc, compiled, level),
     }
 }
 
-fn computed_slots<'a>(alloc: Global, compiled: &Compiled) -> Result<u32, Refusal<'a>>
+fn computed_slots<'a>(
+    alloc: Global,
+    compiled: &Compiled,
+    level: Level,
+) -> Result<u32, Refusal<'a>>
     requires soundly { IsSoundlyCompiled compiled.now }
-    ensures slots { IfOk result (IsComputed compiled.now) }
-    ensures refused { IfErr result (StopsComputed compiled.now) }
+    ensures slots { IfOk result (IsComputed level compiled.now) }
+    ensures refused { IfErr result (StopsComputed level compiled.now) }
 {
-    let bound = bound_of(alloc, compiled)?;
+    let bound = bound_of(alloc, compiled, level)?;
     slots_in(comes_to(bound))
 }
 

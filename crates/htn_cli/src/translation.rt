@@ -91,7 +91,7 @@ fn output_for<'a>(
     ensures differ { IfOk result NamesDiffer }
     ensures refused { IfErr result (StopsMadeFor (translation_of asked.now) compiled.now given) }
 {
-    let slots = slots_for(alloc, compiled, given)?;
+    let slots = slots_for(alloc, compiled, given, asked.level)?;
     output_with(alloc, compiled, asked, slots)
 }
 

@@ -38,10 +38,10 @@ pub record TellsFailure (pd pp plan : List ℕ) (err err' : SinkState) : Type 0 
 
 -- what was found, and told, of a request whose inputs have these texts
 abbrev pub TellsFinding : Request → List (List ℕ) → SinkState → SinkState → Type 0
-TellsFinding (to_translate request) (d ∷ p ∷ []) err err' = TellsCycle request.checks d p err err'
-TellsFinding (to_bound request) (d ∷ p ∷ []) err err' = TellsCycle request.checks d p err err'
+TellsFinding (to_translate request) (d ∷ p ∷ []) err err' = TellsCycle request.level request.checks d p err err'
+TellsFinding (to_bound request) (d ∷ p ∷ []) err err' = TellsCycle request.level request.checks d p err err'
 TellsFinding (to_decode request) (d ∷ p ∷ plan ∷ []) err err' =
-    ((request.numeral ≡ None) × TellsCycle request.checks d p err err') ⊎ TellsNoSolution request d p plan err err'
+    ((request.numeral ≡ None) × TellsCycle request.level request.checks d p err err') ⊎ TellsNoSolution request d p plan err err'
 TellsFinding (to_encode request) (d ∷ p ∷ hplan ∷ []) err err' = TellsNoSteps request d p hplan err err'
 TellsFinding (to_validate request) (pd ∷ pp ∷ plan ∷ []) err err' = TellsFailure pd pp plan err err'
 TellsFinding (to_make request) [] err err' = TellsNothingMade request err err'

@@ -26,6 +26,7 @@ use Rattle.htn_cli.specs.promise.Problems.{ForEach}
 use Rattle.htn_cli.specs.promise.Steps.{SaysWhy}
 use Rattle.htn_cli.specs.declared.refusal.Finding.{Finding}
 use Rattle.htn_cli.specs.declared.refusal.Refusal.TheVariants as refused
+use Rattle.command_words.specs.declared.level.Level.TheVariants.{Lifted}
 
 module _ (request : MakeRequest) where
   -- of each problem that the made texts spell
@@ -53,7 +54,7 @@ module _ (request : MakeRequest) where
   -- nothing was made: the made texts spell no tail-recursive problem, or the made plan has no steps, and the line tells why
   abbrev pub TellsNothingMade : (err err' : SinkState) → Type 0
   TellsNothingMade err err' =
-      TellsCycle Leaf made_domain (problem_of request) err err'
+      TellsCycle Lifted Leaf made_domain (problem_of request) err err'
       ⊎ ((found : Finding) × Told (line_of (refused.Finding found)) err err' × ForEachMade (λ h c. SaysWhy None (plan_of request) found c))
 
 module _ (words : List Word) (files' : FilesState) (out out' : SinkState) where

@@ -7,7 +7,6 @@ use Rattle.outside_io.specs.Sink.{SinkState}
 use Rattle.plan_model.specs.declared.options.Style.{Style}
 use Rattle.plan_model.specs.declared.steps.GroundAction.{GroundAction}
 use Rattle.plan_model.specs.declared.values.Pddl.{Pddl}
-use Rattle.plan_model.specs.plan_meaning.Bound.{IsBound}
 use Rattle.plan_texts.specs.PlanText.{SpellsPlan}
 use Rattle.plan_texts.specs.PrintedTexts.{domain_text, problem_text}
 use Rattle.slot_encoding.specs.Printed.{IsPrinted}
@@ -24,13 +23,14 @@ use Rattle.htn_cli.specs.Sent.{TakesWhole, Told}
 use Rattle.htn_cli.specs.declared.refusal.Finding.TheVariants as finding
 use Rattle.htn_cli.specs.declared.refusal.Refusal.TheVariants as refused
 use Rattle.htn_cli.specs.promise.Problems.{ForEach}
+use Rattle.htn_cli.specs.Levels.{IsBoundAt}
 
 module _ (request : DecodeRequest) (d p plan : List ℕ) where
   -- the steps that the third text spells, and the number of slots: the given one, or else the bound
   pub record AreDecoded (steps : List GroundAction) (slots : ℕ) : Type 0 where
     pub spelled : SpellsPlan plan steps
     pub given : IfSome request.numeral (λ numeral. slots ≡ number_of numeral)
-    pub computed : request.numeral ≡ None → ForEach d p request.checks (λ h c. IsBound c slots)
+    pub computed : request.numeral ≡ None → ForEach d p request.checks (λ h c. IsBoundAt request.level c slots)
 
   -- a tree that was told: the steps spell a schedule of a solution tree, and no other, and what was told is the text of the hierarchical
   -- plan that these show
