@@ -26,5 +26,7 @@ module _ (c : Compiled) where
   -- for each edge its task and its method, and then the task that the last one goes to
   abbrev pub ground_cycle_words : List (Edge GroundMethod) → List (List ℕ)
   ground_cycle_words [] = []
-  ground_cycle_words (e ∷ []) = ground_task_word (source (network c) e) ∷ method_word c e.method.number ∷ ground_task_word (target (network c) e) ∷ []
-  ground_cycle_words (e ∷ next ∷ edges) = ground_task_word (source (network c) e) ∷ method_word c e.method.number ∷ ground_cycle_words (next ∷ edges)
+  ground_cycle_words (e ∷ []) =
+      ground_task_word (source (network c) e) ∷ method_word c e.method.number ∷ ground_task_word (target (network c) e) ∷ []
+  ground_cycle_words (e ∷ next ∷ edges) =
+      ground_task_word (source (network c) e) ∷ method_word c e.method.number ∷ ground_cycle_words (next ∷ edges)

@@ -19,7 +19,8 @@ use Rattle.ground_bound.specs.Search.{method_of, task_of}
 pub record AreInOrder (methods sorted : List Row) : Type 0 where
   pub count : length sorted ≡ length methods
   pub same : (r : Row) → Contains sorted r ↔ Contains methods r
-  pub rising : (k l : ℕ) (r s : Row) → k < l → slice_get sorted k ≡ Some r → slice_get sorted l ≡ Some s → IsBefore (method_of r) (method_of s)
+  pub rising : (k l : ℕ) (r s : Row) → k < l → slice_get sorted k ≡ Some r → slice_get sorted l ≡ Some s
+      → IsBefore (method_of r) (method_of s)
 
 -- the ground method of a row
 abbrev pub method_at : Option Row → GroundMethod

@@ -31,9 +31,7 @@ pub fn ground_bound(alloc: Global, c: &Compiled) -> Result<u128, GroundError>
     ensures refused { IfErr result (HasNoGroundBound c.now) }
 {
     let found = reached(alloc, c)?;
-    let made = problem_of(alloc, c, &found);
-    drop(found);
-    let made = made?;
+    let made = problem_of(alloc, c, found)?;
     let number = bound_by(alloc, &made.value, made.methods.as_slice());
     drop(made);
     number
@@ -54,13 +52,15 @@ impl Drop for GroundProblem {
     }
 }
 
-fn problem_of(alloc: Global, c: &Compiled, found: &Reached) -> Result<GroundProblem, Memory>
+fn problem_of(alloc: Global, c: &Compiled, found: Reached) -> Result<GroundProblem, Memory>
     requires soundly { IsSoundlyCompiled c.now }
-    requires reached { IsReachedOf c.now found.now }
+    requires reached { IsReachedOf c.now found }
     ensures problem { IfOk result (λ made. spec.IsProblemOf c.now made.value made.methods.items) }
 {
-    let methods = in_order(alloc, &found.methods)?;
-    let value = grounded(alloc, c, &found.tasks, methods.as_slice())?;
+    let methods = in_order(alloc, &found.methods);
+    let tasks = found.into_tasks();
+    let methods = methods?;
+    let value = grounded(alloc, c, &tasks, methods.as_slice())?;
     Ok(GroundProblem { value, methods })
 }
 

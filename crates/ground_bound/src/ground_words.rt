@@ -34,7 +34,8 @@ pub fn ground_cycle_words(alloc: Global, c: &Compiled, edges: &[GroundEdge]) -> 
 
 /// The task that the edge goes from.
 fn push_source(text: &mut Text, c: &Compiled, edge: &GroundEdge) -> Result<(), Memory>
-    ensures pushed { OnOk result (text.new ≡ text.old ++ codes " " ++ spec.ground_task_word c.now (source (network c.now) (edge_of edge.now))) }
+    ensures pushed { OnOk result (text.new ≡ text.old ++ codes " "
+        ++ spec.ground_task_word c.now (source (network c.now) (edge_of edge.now))) }
 {
     match c.methods.get(edge.method as usize) {
         Some(plan) => push_task(
@@ -58,7 +59,8 @@ fn push_method(text: &mut Text, c: &Compiled, edge: &GroundEdge) -> Result<(), M
 
 /// The task that the edge goes to.
 fn push_target(text: &mut Text, c: &Compiled, edge: &GroundEdge) -> Result<(), Memory>
-    ensures pushed { OnOk result (text.new ≡ text.old ++ codes " " ++ spec.ground_task_word c.now (target (network c.now) (edge_of edge.now))) }
+    ensures pushed { OnOk result (text.new ≡ text.old ++ codes " "
+        ++ spec.ground_task_word c.now (target (network c.now) (edge_of edge.now))) }
 {
     let Some(plan) = c.methods.get(edge.method as usize) else {
         return push_source(text, c, edge);
@@ -87,7 +89,8 @@ fn push_task(
     number: u32,
     terms: &[Term],
 ) -> Result<(), Memory>
-    ensures pushed { OnOk result (text.new ≡ text.old ++ codes " " ++ spec.ground_task_word c.now (task number (values_of values.now terms.now))) }
+    ensures pushed { OnOk result (text.new ≡ text.old ++ codes " "
+        ++ spec.ground_task_word c.now (task number (values_of values.now terms.now))) }
 {
     text.push_all(b" ")?;
     text.push_all(b"(")?;
