@@ -1,1 +1,3 @@
 pub mod Pruning
+pub mod Places
+pub mod Search

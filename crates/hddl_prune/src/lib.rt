@@ -5,6 +5,11 @@
 //! can't be so (`prune`).
 #![tactic(auto)]
 
+mod adding;
+mod live;
+mod marks;
+mod may;
 mod pruning;
+mod reach;
 
 pub use pruning::{PruneError, prune};

@@ -1,0 +1,6 @@
+use Rattle.std.proofs.Common.{ℕ, ◌<◌}
+use Rattle.hddl_prune.specs.Search.{IsActionSettled, IsTriedLive}
+use Rattle.hddl_prune.proofs.live.Live.try_actions.Given as goal
+
+abbrev pub invariant-loop-n : goal.invariant-loop-n
+invariant-loop-n l = IsTriedLive l.h (λ parts. (k : ℕ) → k < l.n → IsActionSettled l.h k parts) l.initial.self l.self l.found
