@@ -101,6 +101,12 @@ pub(crate) const COMMANDS: &[Command] = &[
         tells: TREE,
     },
     Command {
+        words: &["bound", "d.hddl", "p.hddl", "--level", "ground"],
+        reads: &[D, P],
+        writes: &[],
+        tells: "1\n",
+    },
+    Command {
         words: &["encode", "d.hddl", "p.hddl", "hplan"],
         reads: &[D, P, HPLAN],
         writes: &[],

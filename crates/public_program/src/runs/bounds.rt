@@ -1,6 +1,6 @@
 //! Numbers of slots that are given, and bounds that are computed.
 use super::rows::{BOUNDED, Bounded};
-use super::texts::{DOMAIN, PROBLEM};
+use super::texts::{CUBE_DOMAIN, CUBE_PROBLEM, DOMAIN, PROBLEM};
 use super::{BOUND, Before, Row, Source, TRANSLATE, UNWRITTEN, replay};
 use htn_cli::Status;
 use std::alloc::Global;
@@ -126,4 +126,22 @@ fn computed_bounds(rt: HostRuntime) {
     for row in BOUNDED {
         is_bounded(&rt, rt.alloc(), row);
     }
+}
+
+#[test]
+fn more_is_reached_than_is_counted(rt: HostRuntime) {
+    replay(
+        &rt,
+        rt.alloc(),
+        &Row {
+            before: Before::Both(Source::Text(CUBE_DOMAIN), Source::Text(CUBE_PROBLEM)),
+            command: BOUND,
+            options: &["--level", "ground"],
+            more: &[],
+            status: Status::Limit,
+            out: "",
+            err: "limit ground\n",
+            held: UNWRITTEN,
+        },
+    );
 }

@@ -31,6 +31,8 @@ const WORDS: &[&[&str]] = &[
     &["bound", "d.hddl"],
     &["bound", "d.hddl", "p.hddl", "--bound", "1"],
     &["bound", "d.hddl", "p.hddl", "--style", "adl"],
+    &["bound", "d.hddl", "p.hddl", "--level"],
+    &["encode", "d.hddl", "p.hddl", "hplan", "--level", "ground"],
 ];
 
 const OPTIONS: &[&[&str]] = &[
@@ -43,6 +45,8 @@ const OPTIONS: &[&[&str]] = &[
     &["--style", "flat", "--style", "flat"],
     &["--bound", "1", "--style", "strips"],
     &["--bound", "1", "--slots", "1"],
+    &["--level", "flat"],
+    &["--level", "ground", "--bound", "1"],
 ];
 
 fn refuses(
