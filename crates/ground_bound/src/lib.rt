@@ -6,10 +6,11 @@
 //! problem has either exactly one ground bound or exactly one named bad cycle (`ground_tail_recursive_or_bad_cycle`,
 //! `ground_tail_recursive_has_one_bound`).
 //!
-//! A search for what is reached goes by `searches_are_sound`. It is not whole yet, and nothing calls it: what stands of it goes once over
-//! all actions, puts a method that may be used to what is found, joins what is known of a method's values with the atoms that its
-//! precondition needs (`joined`, over an index of all atoms that may be true), and counts. It stands on `ground_state` and
-//! `problem_index` for truth and effects, on `value_choices` for values, and on `indexmap` for rows that stand once.
+//! A search for what is reached goes by `searches_are_sound` (`search::reached`): it begins with the top task and `:init`, and goes round
+//! after round over all tasks with their methods and over all actions, until one finds nothing new. A method's values are joined from
+//! its task's objects and from the atoms that its precondition needs, by an index of all atoms that may be true; what is left open goes
+//! through its type. It stands on `ground_state` and `problem_index` for truth and effects, on `value_choices` for values, and on
+//! `indexmap` for rows that stand once. Nothing calls it yet.
 #![tactic(auto)]
 
 mod atom_index;
@@ -25,6 +26,7 @@ mod reached;
 mod relaxed;
 mod row_set;
 mod search;
+mod using;
 
 pub use ground_error::{GroundEdge, GroundError};
 pub use laws::{
