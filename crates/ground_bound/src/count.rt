@@ -9,7 +9,7 @@ use crate::ground_error::GroundError;
 use crate::row_set::RowSet;
 
 /// How many ground tasks, ground actions and ground methods may be reached together.
-const MOST_REACHED: usize = 1_000_000;
+pub(crate) const MOST_REACHED: usize = 1_000_000;
 
 /// `TooMany` exactly where more are listed than may be reached.
 pub(crate) fn few_enough(

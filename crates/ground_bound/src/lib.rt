@@ -6,11 +6,13 @@
 //! (`solutions_are_within_the_ground_bound`), since a compiled problem has either exactly one ground bound or exactly one named bad cycle
 //! (`ground_tail_recursive_or_bad_cycle`, `ground_tail_recursive_has_one_bound`).
 //!
-//! The search for what is reached goes by `searches_are_sound`, in rounds over all tasks and actions that are found; what is known of a
-//! method's values is joined with the atoms that its precondition needs (`joined`, over an index of all atoms that may be true). It stands
-//! on `ground_state` and `problem_index` for truth and effects, on `value_choices` for values, and on `indexmap` for rows that stand once.
-//! The number comes of what is found: a compiled problem without parameters, of a task for each reached task and a method for each
-//! reached method, has the strata, the named cycle and the bound of what is reached, and `bound_calc` tells them.
+//! The search for what is reached goes by `searches_are_sound` (`search::reached`): it begins with the top task and `:init`, and goes
+//! round after round over all tasks with their methods and over all actions, until one finds nothing new. A method's values are joined
+//! from its task's objects and from the atoms that its precondition needs, by an index of all atoms that may be true; what is left open
+//! goes through its type. It stands on `ground_state` and `problem_index` for truth and effects, on `value_choices` for values, and on
+//! `indexmap` for rows that stand once. The number comes of what is found: a compiled problem without parameters, of a task for each
+//! reached task and a method for each reached method, has the strata, the named cycle and the bound of what is reached, and `bound_calc`
+//! tells them.
 #![tactic(auto)]
 
 mod atom_index;
@@ -30,6 +32,7 @@ mod reached;
 mod relaxed;
 mod row_set;
 mod search;
+mod using;
 
 pub use bounding::ground_bound;
 pub use ground_error::{GroundEdge, GroundError};
