@@ -44,11 +44,7 @@ pub(crate) fn slots_for<'a>(
     }
 }
 
-fn computed_slots<'a>(
-    alloc: Global,
-    compiled: &Compiled,
-    level: Level,
-) -> Result<u32, Refusal<'a>>
+fn computed_slots<'a>(alloc: Global, compiled: &Compiled, level: Level) -> Result<u32, Refusal<'a>>
     requires soundly { IsSoundlyCompiled compiled.now }
     ensures slots { IfOk result (IsComputed level compiled.now) }
     ensures refused { IfErr result (StopsComputed level compiled.now) }
