@@ -51,6 +51,7 @@ for example in smallest tail-recursive free-variable; do
     refused translate d p od op
     refused translate d p od op --style flat
     refused bound d p
+    refused bound d p --level ground
     refused decode d p plan
     refused encode d p hplan
     refused validate pd pp plan
