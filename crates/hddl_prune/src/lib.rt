@@ -1,8 +1,8 @@
 //! A problem without the actions, methods and tasks that no solution uses.
 //!
-//! Stands on the laws of `live_parts`, which say what is live, what is kept, and that the solutions stay the same. The contract for
-//! the layer above: the pruned value has exactly what is kept, and it is refused exactly where the top method isn't live or the goal
-//! can't be so (`prune`).
+//! Stands on the laws of `live_parts`, which say what is live, what is kept, and that the solutions stay the same. It is not whole yet,
+//! and nothing calls it: what stands of it finds the live parts (`live`) and what the top method reaches through them (`reach`). The
+//! pruned value, which has exactly what is kept, or why there is none, are defined (`specs/Pruning`).
 #![tactic(auto)]
 
 mod adding;
@@ -12,4 +12,4 @@ mod may;
 mod pruning;
 mod reach;
 
-pub use pruning::{PruneError, prune};
+pub use pruning::PruneError;

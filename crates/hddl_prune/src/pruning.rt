@@ -1,10 +1,4 @@
-ghost use Rattle.std.specs.Prelude.{IfOk, IfErr};
-ghost use Rattle.plan_texts.specs.SoundProblem.{IsSoundProblem};
-ghost use Rattle.hddl_prune.specs.Pruning.{IsPruned, HasNoSolution};
-
 use htn_base::Memory;
-use plan_model::Hddl;
-use std::alloc::Global;
 
 /// Why nothing is pruned.
 #[derive(Clone, Copy, PartialEq, Eq)]
@@ -24,13 +18,4 @@ impl From<Memory> for PruneError {
     fn from(_error: Memory) -> PruneError {
         PruneError::Memory
     }
-}
-
-/// The problem without what no solution uses.
-pub fn prune(alloc: Global, h: &Hddl) -> Result<Hddl, PruneError>
-    requires sound { IsSoundProblem h.now }
-    ensures pruned { IfOk result (IsPruned h.now) }
-    ensures refused { IfErr result (HasNoSolution h.now) }
-{
-    Err(PruneError::Memory)
 }
