@@ -1,3 +1,4 @@
 pub mod Pruning
 pub mod Places
 pub mod Search
+pub mod Chosen

@@ -6,6 +6,8 @@
 #![tactic(auto)]
 
 mod adding;
+mod chosen;
+mod copies;
 mod live;
 mod marks;
 mod may;
