@@ -2,3 +2,4 @@ pub mod Pruning
 pub mod Places
 pub mod Search
 pub mod Chosen
+pub mod Joined

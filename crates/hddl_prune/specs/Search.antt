@@ -1,6 +1,6 @@
 -- What a search for live parts, and one for what is kept, has found so far, and what one try of it does.
 -- Source: this project's.
-use Rattle.std.specs.Prelude.{ℕ, ◌≡◌, ◌+◌, ◌<◌, ◌⊎◌, ◌↔◌, Bool, IsTrue, IsFalse, List, Some, slice_get, length, Contains, Any}
+use Rattle.std.specs.Prelude.{ℕ, ◌≡◌, ◌+◌, ◌<◌, Bool, IsTrue, IsFalse, List, Some, slice_get, length, Contains, Any}
 use Rattle.std.specs.List.Sorted.{IsStrictlyIncreasing}
 use Rattle.plan_model.specs.Typing.{IsPart}
 use Rattle.plan_model.specs.declared.types.Object.{Object}

@@ -1,4 +1,5 @@
-ghost use Rattle.std.specs.Prelude.{◌≡◌, IfOk};
+ghost use Rattle.std.specs.Prelude.{◌≡◌, ◌++◌, [], slice_get, IfOk, OnOk};
+ghost use Rattle.live_parts.specs.Pruned.{with_first};
 
 use htn_base::{Boxed, List, Memory, NameTable, WordList};
 use plan_model::{ActionSchema, Effect, Facts, Predicate, TaskSchema, Types};
@@ -70,12 +71,22 @@ pub(crate) fn copy_facts(alloc: Global, facts: &Facts) -> Result<Facts, Memory>
     let mut copies = Facts::new(alloc);
     let mut args = Vec::new(alloc);
     for i in 0..facts.len() {
-        if let Some(fact) = facts.get(i) {
-            fact.args.copy_into(&mut args)?;
-            copies.push(fact.predicate, &args)?;
-        }
+        put_fact(facts, i, &mut args, &mut copies)?;
     }
     Ok(copies)
+}
+
+/// Puts the fact at place `i` at the end. `args` is room for its objects.
+fn put_fact(facts: &Facts, i: usize, args: &mut Vec<u32>, into: &mut Facts) -> Result<(), Memory>
+    ensures { OnOk result (into.new ≡ into.old ++ with_first (slice_get facts.now i) []) }
+{
+    match facts.get(i) {
+        Some(fact) => {
+            fact.args.copy_into(args)?;
+            into.push(fact.predicate, args.as_slice())
+        }
+        None => Ok(()),
+    }
 }
 
 /// An equal task.

@@ -8,6 +8,7 @@
 mod adding;
 mod chosen;
 mod copies;
+mod joined;
 mod live;
 mod marks;
 mod may;
