@@ -83,6 +83,10 @@ module _ (h : Hddl) where
   abbrev pub IsTriedLive : (Parts → Type 0) → Live → Live → Bool → Type 0
   IsTriedLive IsSettled old new found = IsTried AreFound many IsSettled (parts_of old) (parts_of new) found
 
+  -- what is found stays sound
+  abbrev pub StaysFound : Live → Live → Type 0
+  StaysFound old new = AreFound (parts_of old) → AreFound (parts_of new)
+
 -- the head is marked as kept; a check is no subtask of a written network
 abbrev pub IsMarkedHead : Kept → Head → Type 0
 IsMarkedHead kept (Task t) = Contains kept.tasks t
@@ -124,3 +128,7 @@ module _ (h : Hddl) (live : Parts) where
 
   abbrev pub IsTriedReach : (Kept → Type 0) → Reach → Reach → Bool → Type 0
   IsTriedReach IsSettled old new found = IsTried AreOpened opened IsSettled (kept_of old) (kept_of new) found
+
+  -- what is marked stays sound
+  abbrev pub StaysOpened : Reach → Reach → Type 0
+  StaysOpened old new = AreOpened (kept_of old) → AreOpened (kept_of new)

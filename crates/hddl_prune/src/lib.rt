@@ -14,5 +14,7 @@ mod marks;
 mod may;
 mod pruning;
 mod reach;
+mod spreading;
+mod waiting;
 
 pub use pruning::{PruneError, prune};
