@@ -4,3 +4,4 @@ pub mod Tries
 pub mod MayCases
 pub mod LiveSteps
 pub mod ReachSteps
+pub mod CopySteps

@@ -1,5 +1,5 @@
 -- What a search for live parts has found stays sound with one action or method more, and at the end it is what is live.
-use Rattle.std.proofs.Common.{ℕ, ◌≡◌, ◌+◌, ◌-◌, ◌<◌, ◌≤◌, ◌⊎◌, ◌↔◌, inl, inr, Bool, true, false, IsTrue, List, [], length, Some, slice_get, refl, ap, sym, subst, ◌∙◌, Contains, arith}
+use Rattle.std.proofs.Common.{ℕ, ◌≡◌, ◌+◌, ◌-◌, ◌<◌, ◌≤◌, ◌↔◌, inl, inr, Bool, true, false, IsTrue, List, [], length, Some, slice_get, refl, ap, sym, subst, ◌∙◌, Contains, arith}
 use Rattle.std.specs.List.Sorted.{IsStrictlyIncreasing}
 use Rattle.std.proofs.lemmas.Option.{slice_get_within}
 use Rattle.std.proofs.lemmas.Bool.{cases_lt}
@@ -11,7 +11,7 @@ use Rattle.plan_model.specs.declared.schemas.ActionSchema.{ActionSchema}
 use Rattle.plan_model.specs.declared.schemas.MethodSchema.{MethodSchema}
 use Rattle.plan_model.specs.declared.values.Hddl.{Hddl}
 use Rattle.plan_model.proofs.task_networks.Lists.{not-in_empty}
-use Rattle.live_parts.specs.Live.{Parts, TypeOf, MayHold, AddsOf, IsLiveHead, IsLiveMethod, AreClosed, AreAmong, AreLive}
+use Rattle.live_parts.specs.Live.{Parts, TypeOf, MayHold, AddsOf, IsLiveHead, IsLiveMethod, AreAmong, AreLive}
 use Rattle.live_parts.proofs.MayMore.{more_may}
 use Rattle.hddl_prune.specs.Places.{HasAlso}
 use Rattle.live_parts.proofs.Places.{at_place, place_in}

@@ -1,5 +1,5 @@
 -- What may be so, and what an effect adds, by the cases of formulas and effects.
-use Rattle.std.proofs.Common.{ℕ, ◌≡◌, ◌⊎◌, ◌↔◌, inl, inr, Bool, true, false, IsTrue, List, [], ◌∷◌, ◌++◌, ◌+◌, ◌<◌, ◌≤◌, length, get_or, take, slice_get, Some, ap, sym, subst, ◌∙◌, Contains, refl}
+use Rattle.std.proofs.Common.{ℕ, ◌≡◌, ◌⊎◌, ◌↔◌, inl, inr, Bool, true, false, IsTrue, List, [], ◌∷◌, ◌++◌, ◌+◌, ◌<◌, ◌≤◌, length, get_or, take, ap, sym, subst, ◌∙◌, Contains, refl}
 use Rattle.plan_model.specs.declared.terms.Term.{Term}
 use Rattle.plan_model.specs.declared.terms.Atom.{Atom}
 use Rattle.plan_model.specs.declared.terms.Param.{Param}
@@ -13,7 +13,6 @@ use Rattle.live_parts.specs.Live.{EachSo, OneSo, HasEmptyType, MayBeSo, AddsOf}
 use Rattle.live_parts.proofs.MaySo.{so_roll, adds_of_roll}
 use Rattle.std.proofs.lemmas.List.{take_more, take_all}
 use Rattle.std.proofs.lemmas.List.Elements.{Contains-get_or}
-use Rattle.plan_model.specs.declared.types.Object.{Object}
 use Rattle.plan_model.specs.declared.values.Hddl.{Hddl}
 use Rattle.live_parts.specs.Live.{TypeOf}
 use Rattle.live_parts.proofs.Places.{at_place, place_in}

@@ -1,5 +1,5 @@
 -- What a search for what is kept has marked stays sound with one method more, and at the end it is what is kept.
-use Rattle.std.proofs.Common.{ℕ, ◌≡◌, ◌+◌, ◌<◌, ◌≤◌, ◌⊎◌, ◌↔◌, inl, inr, List, [], ◌∷◌, ◌++◌, length, take, get_or, Some, slice_get, refl, ap, sym, subst, ◌∙◌, Contains, arith}
+use Rattle.std.proofs.Common.{ℕ, ◌≡◌, ◌+◌, ◌<◌, ◌≤◌, ◌⊎◌, inl, inr, List, [], ◌∷◌, ◌++◌, length, take, get_or, Some, slice_get, refl, ap, sym, subst, ◌∙◌, Contains, arith}
 use Rattle.std.specs.List.Sorted.{IsStrictlyIncreasing}
 use Rattle.std.proofs.lemmas.Option.{slice_get_within}
 use Rattle.std.proofs.lemmas.List.{take_more}
@@ -13,7 +13,7 @@ use Rattle.plan_model.proofs.task_networks.Lists.{not-in_empty}
 use Rattle.live_parts.specs.Live.{Parts}
 use Rattle.live_parts.specs.Kept.{Kept, IsReached, below_top, below, IsKeptMethod, AreKept}
 use Rattle.hddl_prune.specs.Places.{HasAlso}
-use Rattle.hddl_prune.specs.Search.{IsMarkedHead, AreMarkedHeads, MarksHeads, IsHeadOf, AreOpened, opened, AreOpeningsSettled}
+use Rattle.hddl_prune.specs.Search.{IsMarkedHead, MarksHeads, IsHeadOf, AreOpened, opened, AreOpeningsSettled}
 use Rattle.hddl_prune.proofs.PlaceLemmas.{longer, few}
 
 -- one head or some heads more
@@ -150,3 +150,13 @@ module _ (h : Hddl) (live : Parts) where
       actions_in_order = actions;
       methods_in_order = f.methods_rise;
     }
+
+    -- the same as lists
+    pub chosen_kept : (tasks actions methods : List ℕ) → tasks ≡ kept.tasks → actions ≡ kept.actions → methods ≡ kept.methods → IsStrictlyIncreasing tasks → IsStrictlyIncreasing actions
+        → AreKept h live (record { tasks = tasks; actions = actions; methods = methods })
+    chosen_kept tasks actions methods et ea em rt ra =
+        let are = settled_kept (subst IsStrictlyIncreasing et rt) (subst IsStrictlyIncreasing ea ra) in
+        let a : AreKept h live (record { tasks = tasks; actions = kept.actions; methods = kept.methods }) =
+        subst (λ z. AreKept h live (record { tasks = z; actions = kept.actions; methods = kept.methods })) (sym et) are in
+        let b : AreKept h live (record { tasks = tasks; actions = actions; methods = kept.methods }) = subst (λ z. AreKept h live (record { tasks = tasks; actions = z; methods = kept.methods })) (sym ea) a in
+        subst (λ z. AreKept h live (record { tasks = tasks; actions = actions; methods = z })) (sym em) b

@@ -1,6 +1,6 @@
 -- What a search for live parts, and one for what is kept, has found so far, and what one try of it does.
 -- Source: this project's.
-use Rattle.std.specs.Prelude.{ℕ, ◌≡◌, ◌+◌, ◌<◌, ◌⊎◌, ◌↔◌, Bool, IsTrue, IsFalse, List, Some, slice_get, length, Contains, Any}
+use Rattle.std.specs.Prelude.{ℕ, ◌≡◌, ◌+◌, ◌<◌, Bool, IsTrue, IsFalse, List, Some, slice_get, length, Contains, Any}
 use Rattle.std.specs.List.Sorted.{IsStrictlyIncreasing}
 use Rattle.plan_model.specs.Typing.{IsPart}
 use Rattle.plan_model.specs.declared.types.Object.{Object}
@@ -83,6 +83,10 @@ module _ (h : Hddl) where
   abbrev pub IsTriedLive : (Parts → Type 0) → Live → Live → Bool → Type 0
   IsTriedLive IsSettled old new found = IsTried AreFound many IsSettled (parts_of old) (parts_of new) found
 
+  -- what is found stays sound
+  abbrev pub StaysFound : Live → Live → Type 0
+  StaysFound old new = AreFound (parts_of old) → AreFound (parts_of new)
+
 -- the head is marked as kept; a check is no subtask of a written network
 abbrev pub IsMarkedHead : Kept → Head → Type 0
 IsMarkedHead kept (Task t) = Contains kept.tasks t
@@ -124,3 +128,7 @@ module _ (h : Hddl) (live : Parts) where
 
   abbrev pub IsTriedReach : (Kept → Type 0) → Reach → Reach → Bool → Type 0
   IsTriedReach IsSettled old new found = IsTried AreOpened opened IsSettled (kept_of old) (kept_of new) found
+
+  -- what is marked stays sound
+  abbrev pub StaysOpened : Reach → Reach → Type 0
+  StaysOpened old new = AreOpened (kept_of old) → AreOpened (kept_of new)

@@ -7,6 +7,7 @@ ghost use Rattle.hddl_prune.specs.Search as spec;
 use crate::adding::mark_added;
 use crate::marks::Marks;
 use crate::may::may_be_so;
+use crate::spreading::spread;
 use htn_base::{Memory, number};
 use plan_model::{Child, Facts, Hddl, Head, MethodSchema};
 use std::alloc::Global;
@@ -37,6 +38,7 @@ impl Live {
         ensures live { IfOk result (λ live. AreLive h.now (spec.parts_of live)) }
     {
         let mut live = Live::first(alloc, h)?;
+        spread(alloc, h, &mut live)?;
         while live.try_all(h)? {}
         Ok(live)
     }
@@ -94,7 +96,7 @@ impl Live {
     }
 
     /// Marks the action and what it adds, where it isn't marked yet and its precondition may be so. Whether it was marked.
-    fn try_action(&mut self, h: &Hddl, n: u32) -> Result<bool, Memory>
+    pub(crate) fn try_action(&mut self, h: &Hddl, n: u32) -> Result<bool, Memory>
         requires listed { AreListed h.now.types }
         ensures tried { IfOk result (spec.IsTriedLive h.now (spec.IsActionSettled h.now n) self.old self.new) }
     {
@@ -113,7 +115,7 @@ impl Live {
     }
 
     /// Marks the method and its task, where it isn't marked yet and is live. Whether it was marked.
-    fn try_method(&mut self, h: &Hddl, n: u32) -> Result<bool, Memory>
+    pub(crate) fn try_method(&mut self, h: &Hddl, n: u32) -> Result<bool, Memory>
         requires listed { AreListed h.now.types }
         ensures tried { IfOk result (spec.IsTriedLive h.now (spec.IsMethodSettled h.now n) self.old self.new) }
     {

@@ -1,9 +1,9 @@
-ghost use Rattle.std.specs.Prelude.{◌≡◌, ◌<◌, ◌^◌, ◌↔◌, ℕ, [], IsTrue, Contains, length, OnOk};
+ghost use Rattle.std.specs.Prelude.{◌≡◌, ◌<◌, ◌^◌, ◌↔◌, ℕ, [], IsTrue, Contains, length, IfOk, OnOk};
 ghost use Rattle.std.specs.List.Sorted.{IsStrictlyIncreasing};
 ghost use Rattle.plan_model.specs.Parts.{IsMarked};
-ghost use Rattle.hddl_prune.specs.Places.{HasAlso};
+ghost use Rattle.hddl_prune.specs.Places.{HasAlso, places_from};
 
-use htn_base::Memory;
+use htn_base::{List, Memory, number};
 use std::alloc::Global;
 use std::marker::Model;
 
@@ -49,6 +49,14 @@ impl Marks {
         false
     }
 
+    /// The numbers that are marked, rising.
+    pub(crate) fn numbers(&self, alloc: Global) -> Result<List<u32>, Memory>
+        ensures numbers { IfOk result (λ numbers. numbers ≡ self.now) }
+        ensures rising { IfOk result IsStrictlyIncreasing }
+    {
+        places(alloc, &self.flags)
+    }
+
     /// Marks the number, which may be marked already.
     pub(crate) fn mark(&mut self, number: u32) -> Result<(), Memory>
         ensures marked { OnOk result (HasAlso self.old (λ k. k ≡ number) self.new) }
@@ -71,4 +79,17 @@ fn widen(flags: &mut Vec<bool>, place: usize) -> Result<(), Memory>
         flags.resize(place + 1, false)?;
     }
     Ok(())
+}
+
+/// The places of the marks.
+fn places(alloc: Global, flags: &[bool]) -> Result<List<u32>, Memory>
+    ensures places { IfOk result (λ numbers. numbers ≡ places_from 0 flags.now) }
+{
+    let mut numbers = List::new(alloc);
+    for n in 0..number(flags.len())? {
+        if flags[n as usize] {
+            numbers.push(n)?;
+        }
+    }
+    Ok(numbers)
 }

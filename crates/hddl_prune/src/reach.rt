@@ -4,6 +4,7 @@ ghost use Rattle.hddl_prune.specs.Search as spec;
 
 use crate::live::Live;
 use crate::marks::Marks;
+use crate::spreading::open;
 use htn_base::{Memory, number};
 use plan_model::{Child, Hddl, Head};
 use std::alloc::Global;
@@ -37,6 +38,7 @@ impl Reach {
             methods: Marks::new(alloc),
         };
         reach.mark_all(h.top.children.as_slice())?;
+        open(alloc, h, live, &mut reach)?;
         while reach.try_all(h, live)? {}
         Ok(reach)
     }
@@ -56,7 +58,7 @@ impl Reach {
     }
 
     /// Marks the method and its subtasks, where it isn't marked yet, is live, and its task is marked. Whether it was marked.
-    fn try_method(&mut self, h: &Hddl, live: &Live, n: u32) -> Result<bool, Memory>
+    pub(crate) fn try_method(&mut self, h: &Hddl, live: &Live, n: u32) -> Result<bool, Memory>
         ensures tried { IfOk result (spec.IsTriedReach h.now (spec.parts_of live.now)
             (spec.IsOpeningSettled h.now (spec.parts_of live.now) n) self.old self.new) }
     {

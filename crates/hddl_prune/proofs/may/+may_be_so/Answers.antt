@@ -2,7 +2,7 @@ use Rattle.std.proofs.Common.{◌≡◌, true, false, Contains, refl, sym, subst
 use Rattle.plan_model.specs.declared.formulas.Formula.{Formula}
 use Rattle.live_parts.specs.Live.{TypeOf, EachSo, OneSo}
 use Rattle.hddl_prune.specs.Search.{MayBeSoOver}
-use Rattle.hddl_prune.proofs.Each.{each_start, each_next, each_end, each_at, so_each, each_so, one_at, one_some}
+use Rattle.hddl_prune.proofs.Each.{each_next, each_end, each_at, so_each, each_so, one_at, one_some}
 use Rattle.hddl_prune.proofs.MayCases as may
 use Rattle.hddl_prune.proofs.may.+may_be_so.Goals as goal
 

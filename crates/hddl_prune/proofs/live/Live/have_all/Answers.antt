@@ -2,7 +2,7 @@ use Rattle.std.proofs.Common.{◌≡◌, true, false, refl}
 use Rattle.plan_model.specs.declared.networks.Child.{Child}
 use Rattle.live_parts.specs.Live.{IsLiveHead}
 use Rattle.hddl_prune.specs.Search.{parts_of}
-use Rattle.hddl_prune.proofs.Each.{each_start, each_next, each_end, each_at}
+use Rattle.hddl_prune.proofs.Each.{each_next, each_end, each_at}
 use Rattle.hddl_prune.proofs.live.Live.have_all.Goals as goal
 
 pub loop-child-preserved : goal.loop-child-preserved

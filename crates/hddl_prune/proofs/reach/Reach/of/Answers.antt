@@ -9,8 +9,9 @@ pub loop-reach-init : goal.loop-reach-init
 loop-reach-init c =
     let old : Kept = record { tasks = c.new.result; actions = c.new-2.result; methods = c.new-3.result } in
     let new : Kept = kept_of c.mark_all.new.self in
-    top_opened c.args.h.now (parts_of c.args.live.now) old new c.new.ensures.none c.new-2.ensures.none c.new-3.ensures.none
-    (subst (λ z. MarksHeads (IsHeadOf z) old new) c.as_slice.ensures.items c.in_ok-mark_all.ensures)
+    c.in_ok-open.ensures.sound
+    (top_opened c.args.h.now (parts_of c.args.live.now) old new c.new.ensures.none c.new-2.ensures.none c.new-3.ensures.none
+    (subst (λ z. MarksHeads (IsHeadOf z) old new) c.as_slice.ensures.items c.in_ok-mark_all.ensures))
 
 pub loop-reach-smaller : goal.loop-reach-smaller
 loop-reach-smaller c =

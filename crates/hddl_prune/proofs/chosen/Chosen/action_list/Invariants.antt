@@ -1,0 +1,6 @@
+use Rattle.std.proofs.Common.{◌≡◌, take}
+use Rattle.live_parts.specs.Pruned.{only}
+use Rattle.hddl_prune.proofs.chosen.Chosen.action_list.Given as goal
+
+abbrev pub invariant-loop-n : goal.invariant-loop-n
+invariant-loop-n l = l.actions ≡ only l.h.actions (take l.n-index l.numbers)
