@@ -34,7 +34,7 @@ pub use facts::{Fact, Facts};
 pub use formulas::Formula;
 pub use membership::{in_type, members};
 pub use networks::{Child, Constraint, Guard, Head, Pair};
-pub use options::{Checks, Style};
+pub use options::{Checks, Slots, Style};
 pub use parts::Parts;
 pub use schemas::{ActionSchema, MethodPlan, MethodSchema, Predicate, TaskSchema};
 pub use scope::Scope;

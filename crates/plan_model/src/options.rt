@@ -13,3 +13,10 @@ pub enum Style {
     Adl,
     Flat,
 }
+
+/// Which free slots a method takes for its new subtasks: any, or the lowest ones in the order of their numbers.
+#[derive(Clone, Copy)]
+pub enum Slots {
+    Any,
+    First,
+}

@@ -4,6 +4,7 @@ pub mod EncodedActions
 pub mod EncodedValue
 pub mod Printed
 pub mod EncodedWords
+pub mod FirstFree
 pub mod Numberable
 pub mod Countable
 pub mod WordsDiffer
