@@ -3,7 +3,9 @@ ghost use Rattle.command_words.specs.Bounds.{IsCount};
 ghost use Rattle.command_words.specs.Names.{words_of};
 ghost use Rattle.command_words.specs.Words.{AreOfAForm, AskFor, Asks, AsksBound, AsksDecode, AsksEncode, AsksMake, AsksPrune, AsksTranslation, AsksValidation, BoundRequest, DecodeRequest, EncodeRequest, MakeRequest, PruneRequest, SayBound, SayDecode, SayEncode, SayMake, SayPrune, SayTranslation, SayValidation, TranslationRequest, ValidationRequest, bound_of, decode_of, encode_of, make_of, prune_of, request_of, translation_of, validation_of};
 
-use crate::asking::{Asked, Bounding, Decoding, Encoding, Making, Pruning, Translation, Validation};
+use crate::asking::{
+    Asked, Bounding, Decoding, Encoding, Making, Pruning, Translation, Validation,
+};
 use crate::bounds::{count_of, is_count};
 use crate::commands::Command;
 use crate::forms::{BOUND, DECODING, ENCODING, MAKING, PRUNING, TRANSLATION, VALIDATION, parts_of};
@@ -306,8 +308,12 @@ fn pruning<'a>(names: &'a [String], options: &'a [String]) -> Option<Pruning<'a>
     let [d, p, od, op] = names else {
         return None;
     };
-    let (d, p, od, op) = (d.as_str(), p.as_str(), od.as_str(), op.as_str());
-    let names = Named { d, p, od, op };
+    let names = Named {
+        d: d.as_str(),
+        p: p.as_str(),
+        od: od.as_str(),
+        op: op.as_str(),
+    };
     if !are_apart(&names) {
         return None;
     }
