@@ -1,4 +1,4 @@
--- The laws of pruning that a run's promise rests on, as one record.
+-- The laws of pruning that a run's promise rests on, as one record, and that they hold.
 use Rattle.std.proofs.Common.{ℕ, List}
 use Rattle.plan_model.specs.declared.values.Hddl.{Hddl}
 use Rattle.plan_model.specs.plan_meaning.Laws.{AreOrdered}
@@ -15,3 +15,11 @@ pub record PruneLaws : Type 0 where
   pub spell : (d p : List ℕ) (h : Hddl) → IsHddlOf d p h → IsSoundProblem h → AreOrdered h → PrunedTextsSpell h
   pub keep : (d p : List ℕ) (h : Hddl) → IsHddlOf d p h → IsSoundProblem h → AreOrdered h → PrunedTextsKeepPlans h d p
   pub none : (d p : List ℕ) (h : Hddl) → IsHddlOf d p h → IsSoundProblem h → AreOrdered h → RefusedHaveNoSolution h d p
+
+-- they hold
+pub prune_laws : PruneLaws
+prune_laws = ?
+
+-- and each problem is pruned, or cannot be solved
+pub pruned_somehow : (h : Hddl) → IsSoundProblem h → IsPrunedSomehow h
+pruned_somehow h sound = ?

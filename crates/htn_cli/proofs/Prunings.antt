@@ -8,13 +8,17 @@ use Rattle.text_values.specs.Values.{IsValueOf}
 use Rattle.live_parts.proofs.PrunedSound.{is_sound}
 use Rattle.hddl_prune.specs.Pruning.{IsPruned}
 use Rattle.hddl_texts.specs.PrintedHddl.{hddl_domain_text, hddl_problem_text}
+use Rattle.hddl_texts.specs.Lengths.{ArePrintedWithin}
+use Rattle.hddl_texts.specs.declared.texts.Texts.{Texts as Printed}
+use Rattle.hddl_texts.specs.declared.texts.Printed.TheVariants as P
 use Rattle.command_words.specs.Words.{PruneRequest, to_prune}
 use Rattle.htn_cli.specs.Answer.{Output}
 use Rattle.htn_cli.specs.Lines.{kept_line}
 use Rattle.htn_cli.specs.Made.{output_of}
 use Rattle.htn_cli.specs.Pruning.{hddl_texts_of, SpellPruned, GivesPrune}
-use Rattle.htn_cli.specs.PruneStops.{StopsKeeping, StopsText, AreWrittenOf, IsMadePruned, StopsMadePruned}
+use Rattle.htn_cli.specs.PruneStops.{StopsKeeping, AreTextsOf, StopsText, AreWrittenOf, IsMadePruned, StopsMadePruned}
 use Rattle.htn_cli.specs.Stops.{StopsTexts}
+use Rattle.htn_cli.specs.Texts.{IsFirstTooLong}
 use Rattle.htn_cli.specs.Translation.{texts_for}
 use Rattle.htn_cli.specs.declared.output.Output.{Output as Made}
 use Rattle.htn_cli.specs.declared.output.Written.{Written}
@@ -24,6 +28,7 @@ use Rattle.htn_cli.specs.declared.refusal.Limit.TheVariants as limit
 use Rattle.htn_cli.specs.declared.refusal.Refusal.{Refusal}
 use Rattle.htn_cli.specs.declared.refusal.Refusal.TheVariants as refused
 use Rattle.htn_cli.proofs.Leavings.{few_digits, written_texts}
+use Rattle.htn_cli.proofs.Printed.{short, first_too_long}
 
 -- The line is short.
 numbers_fit : (tasks methods actions : ℕ) → tasks < 2 ^ 128 → methods < 2 ^ 128 → actions < 2 ^ 128
@@ -39,6 +44,19 @@ numbers_fit tasks methods actions t m a =
     let i = length-append (codes "tasks " ++ decimal tasks) (codes " methods ") in
     let j = length-append (codes "tasks ") (decimal tasks) in
     omega (arith, x, y, z, e, f, g, h, i, j)
+
+-- What is printed within the limit: both texts, or the length of the first that is too long.
+pub whole_texts : (value : Hddl) (texts : Printed) → ArePrintedWithin value longest_output (P.Whole texts) → AreTextsOf value (record { domain = texts.domain; problem = texts.problem })
+whole_texts value texts (d, p, df, pf) = (
+  record {
+    domain_fits = subst (λ z. length z ≤ longest_output) d (short (length texts.domain) df);
+    problem_fits = subst (λ z. length z ≤ longest_output) p (short (length texts.problem) pf);
+  },
+  λ i. record { domain = d i; problem = p i },
+)
+
+pub past_text : (value : Hddl) (n : ℕ) → ArePrintedWithin value longest_output (P.TooLong n) → IsFirstTooLong (hddl_domain_text value) (hddl_problem_text value) n
+past_text value n past = first_too_long (hddl_domain_text value) (hddl_problem_text value) n past
 
 -- what is kept of a sound problem is sound
 pub kept_is_sound : (source value : Hddl) → IsSoundProblem source → IsPruned source value → IsSoundProblem value
