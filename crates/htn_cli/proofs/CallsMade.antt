@@ -177,7 +177,7 @@ keeps_by laws (to_make r) [] output (texts, actions, bound, width, steps, are, e
     (subst (λ (z : Output). TakesWhole z.told out out') e told))
 keeps_by laws (to_prune r) (d ∷ p ∷ []) output (value, spell, short, e) out out' told =
     subst (λ (z : Output). Keeps (to_prune r) (d ∷ p ∷ []) z.texts out out') (sym e)
-    (keeps_pruned laws.pruned d p value spell (hddl_domain_text value) (hddl_problem_text value) refl refl out out' (subst (λ (z : Output). TakesWhole z.told out out') e told))
+    (keeps_pruned d p value spell (hddl_domain_text value) (hddl_problem_text value) refl refl out out' (subst (λ (z : Output). TakesWhole z.told out out') e told))
 keeps_by laws _ _ output x out out' told = absurd x
 
 module _ (words : List Word) (old new : Option (List Passed)) where

@@ -186,7 +186,7 @@ finding_here laws (to_decode r) (d ∷ p ∷ plan ∷ []) (finding.SpellsNoSolut
 finding_here laws (to_encode r) (d ∷ p ∷ hplan ∷ []) f (c, plan, s, is) err err' line = no_steps_here laws.encoded r d p hplan c plan s.spelled laws.within f is err err' line
 finding_here laws (to_validate r) (pd ∷ pp ∷ plan ∷ []) (finding.NotAPlan step why) x err err' line = failure_here pd pp plan step why err err' line x
 finding_here laws (to_make r) [] f x err err' line = nothing_made laws r f x err err' line
-finding_here laws (to_prune r) (d ∷ p ∷ []) finding.NoSolution (source, read, cannot) err err' line = unsolved_here laws.pruned d p source read cannot err err' line
+finding_here laws (to_prune r) (d ∷ p ∷ []) finding.NoSolution (source, read, cannot) err err' line = unsolved_here d p source read cannot err err' line
 finding_here laws _ _ f x err err' line = absurd x
 
 -- An output comes from all texts, which are given; and a finding from all texts, which are declined.
@@ -313,14 +313,14 @@ module _ (words : List Word) (files files' : FilesState) (out out' : SinkState) 
           keeps_made laws r out out' texts actions bound width steps are od op domain_is problem_is
           (keep_here laws.ground (translation_for r) made_domain (problem_of r) out out' texts bound are.written od op domain_is problem_is) line
 
-  pub pruned_done : LawsUsed → HasPruned words files files' out out'
-  pruned_done laws r d p od op asked read domain_held problem_held = go (achieved (to_prune r) asked (d ∷ p ∷ []) read) (gives_here (to_prune r) asked (d ∷ p ∷ []) read)
+  pub pruned_done : HasPruned words files files' out out'
+  pruned_done r d p od op asked read domain_held problem_held = go (achieved (to_prune r) asked (d ∷ p ∷ []) read) (gives_here (to_prune r) asked (d ∷ p ∷ []) read)
     where
       go : (a : Achieves files files' out out' (to_prune r)) → GivesPrune r d p a.output → KeepsPruned d p od op out out'
       go a (value, spell, short, e) =
           let stand : Stand (texts_for r.names (hddl_texts_of value)) files files' = subst (λ (z : Output). Stand z.texts files files') e a.stands.0 in
           let line : TakesWhole (kept_line_of value) out out' = subst (λ (z : Output). TakesWhole z.told out out') e a.stands.1 in
-          keeps_pruned laws.pruned d p value spell od op
+          keeps_pruned d p value spell od op
           (held_there files.held _ (hddl_domain_text value) od stand.held.0 domain_held)
           (held_there files.held _ (hddl_problem_text value) op stand.held.1.0 problem_held) out out' line
 
@@ -350,7 +350,7 @@ module _ (laws : LawsUsed) (words : List Word) (files files' : FilesState) (out 
     encode = λ e. steps_done words files files' out out' done laws.decoded laws.encoded;
     validate = λ e. plan_done words files files' out out' done;
     make = λ e. made_done words files files' out out' done laws;
-    prune = λ e. pruned_done words files files' out out' done laws;
+    prune = λ e. pruned_done words files files' out out' done;
     finding = λ e. absurd (cc);
   }
 

@@ -2,11 +2,9 @@
 use Rattle.decode_answers.specs.DecodeLaws.{ValuesAreDecodedAlike}
 use Rattle.ground_answers.specs.GroundLaws.{ValuesHaveOneGroundBound}
 use Rattle.encode_answers.specs.EncodeLaws.{NoWidthIsPastTheBound, ValuesAreEncodedAlike}
-use Rattle.htn_cli.proofs.PruneLaws.{PruneLaws}
 
 pub record LawsUsed : Type 0 where
   pub decoded : ValuesAreDecodedAlike
   pub encoded : ValuesAreEncodedAlike
   pub within : NoWidthIsPastTheBound
   pub ground : ValuesHaveOneGroundBound
-  pub pruned : PruneLaws

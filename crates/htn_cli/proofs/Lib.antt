@@ -18,7 +18,6 @@ pub mod EachProblem
 pub mod TreeTold
 pub mod StepsTold
 pub mod MadeTold
-pub mod PruneLaws
 pub mod Prunings
 pub mod PruneTold
 pub mod LawsUsed

@@ -25,7 +25,6 @@ use Rattle.htn_cli.proofs.OneFault.{one_fault, fault_not_declined, fault_not_giv
 use Rattle.htn_cli.proofs.OneInput.{Agree, agree, whole_same, large_not_whole, one_large}
 use Rattle.htn_cli.proofs.OneMaking.{MakeComes, one_made}
 use Rattle.htn_cli.proofs.OnePruning.{PruneComes, one_pruned}
-use Rattle.htn_cli.proofs.PruneLaws.{PruneLaws}
 use Rattle.htn_cli.proofs.OneSlots.{past_few, one_past}
 use Rattle.htn_cli.proofs.OneTranslation.{TranslationComes, one_translated}
 use Rattle.htn_cli.proofs.OneValidation.{PlanComes, one_validated}
@@ -108,7 +107,7 @@ not_both : (request : Request) (texts : List (List ℕ)) (f : Refusal) (a : Answ
 not_both request texts f (refuses refusal) x y = fault_not_declined request texts f refusal x y
 not_both request texts f (gives output) x y = fault_not_given request texts f output x y.0
 
-module _ (once : EachIsDecodedOnce) (alike : ValuesAreDecodedAlike) (encoded_once : EachIsEncodedOnce) (encoded_alike : ValuesAreEncodedAlike) (spelled_once : EachIsSpelledOnce) (ground : ValuesHaveOneGroundBound) (pruned : PruneLaws) where
+module _ (once : EachIsDecodedOnce) (alike : ValuesAreDecodedAlike) (encoded_once : EachIsEncodedOnce) (encoded_alike : ValuesAreEncodedAlike) (spelled_once : EachIsSpelledOnce) (ground : ValuesHaveOneGroundBound) where
   one_comes : (request : Request) (texts : List (List ℕ)) (a b : Answer) → Comes request texts a → Comes request texts b → TellTheSame a b
   one_comes (to_translate r) (d ∷ p ∷ []) a b is also = one_translated r d p ground a b (translation_comes r d p a is) (translation_comes r d p b also)
   one_comes (to_bound r) (d ∷ p ∷ []) a b is also = one_bounded ground r d p a b (bound_comes r d p a is) (bound_comes r d p b also)
@@ -116,7 +115,7 @@ module _ (once : EachIsDecodedOnce) (alike : ValuesAreDecodedAlike) (encoded_onc
   one_comes (to_encode r) (d ∷ p ∷ l ∷ []) a b is also = one_encoded encoded_once encoded_alike r d p l a b (encode_comes r d p l a is) (encode_comes r d p l b also)
   one_comes (to_validate r) (d ∷ p ∷ l ∷ []) a b is also = one_validated d p l a b (plan_comes r d p l a is) (plan_comes r d p l b also)
   one_comes (to_make r) [] a b is also = one_made encoded_once encoded_alike spelled_once ground r a b (make_comes r a is) (make_comes r b also)
-  one_comes (to_prune r) (d ∷ p ∷ []) a b is also = one_pruned pruned r d p a b (prune_comes r d p a is) (prune_comes r d p b also)
+  one_comes (to_prune r) (d ∷ p ∷ []) a b is also = one_pruned r d p a b (prune_comes r d p a is) (prune_comes r d p b also)
   one_comes request texts a b is also = absurd (nothing_comes request texts (λ refusal x. x) (λ output x. x) a is)
 
   module _ (request : Request) (texts others : List (List ℕ)) (e : Agree texts others) (f : Agree others texts) where

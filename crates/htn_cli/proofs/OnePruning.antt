@@ -6,6 +6,7 @@ use Rattle.hddl_prune.specs.Pruning.{IsPruned, CannotBeSolved}
 use Rattle.hddl_texts.specs.PrintedHddl.{hddl_domain_text, hddl_problem_text}
 use Rattle.pruned_answers.specs.PruneLaws.{HaveOneOutcome}
 use Rattle.pruned_answers.specs.PruneLaws as laws
+use Rattle.pruned_answers.proofs.OneOutcome.{values_have_one_outcome}
 use Rattle.command_words.specs.Words.{PruneRequest}
 use Rattle.htn_cli.specs.Answer.{Output, Answer, refuses, gives}
 use Rattle.htn_cli.specs.Lines.{kept_line}
@@ -19,14 +20,13 @@ use Rattle.htn_cli.specs.declared.refusal.Limit.TheVariants as limit
 use Rattle.htn_cli.specs.declared.refusal.Refusal.{Refusal}
 use Rattle.htn_cli.specs.declared.refusal.Refusal.TheVariants as refused
 use Rattle.htn_cli.proofs.OneTranslation.{one_long, not_long}
-use Rattle.htn_cli.proofs.PruneLaws.{PruneLaws}
 
 -- what follows from two texts without a fault
 abbrev pub PruneComes : PruneRequest → List ℕ → List ℕ → Answer → Type 0
 PruneComes request d p (refuses refusal) = RefusesPrune d p refusal
 PruneComes request d p (gives output) = GivesPrune request d p output
 
-module _ (prune_laws : PruneLaws) (request : PruneRequest) (d p : List ℕ) where
+module _ (request : PruneRequest) (d p : List ℕ) where
   abbrev Source : Type 0
   Source = (h : Hddl) × IsValueOf d p h
 
@@ -38,7 +38,7 @@ module _ (prune_laws : PruneLaws) (request : PruneRequest) (d p : List ℕ) wher
         → Follows x (gives output)
 
   outcome : (x y : Source) → HaveOneOutcome x.0 y.0
-  outcome x y = prune_laws.one d p x.0 y.0 x.1.spelled y.1.spelled x.1.sound
+  outcome x y = values_have_one_outcome d p x.0 y.0 x.1.spelled y.1.spelled x.1.sound
 
   same_value : (x y : Source) (value other : Hddl) → IsPruned x.0 value → IsPruned y.0 other → laws.TellTheSame value other
   same_value x y value other is also = (outcome x y).pruned value other is also

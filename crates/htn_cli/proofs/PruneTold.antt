@@ -22,13 +22,15 @@ use Rattle.live_parts.proofs.PrunedSolutions.{same, as_wide, stay, come_back, on
 use Rattle.hddl_prune.specs.Pruning.{IsPruned, CannotBeSolved}
 use Rattle.hddl_texts.specs.PrintedHddl.{hddl_domain_text, hddl_problem_text}
 use Rattle.pruned_answers.specs.PrunedTexts.{KeepPlans}
+use Rattle.pruned_answers.proofs.OneOutcome.{values_pruned_alike, values_have_one_outcome}
+use Rattle.pruned_answers.proofs.PrunedTexts.{pruned_texts_spell}
+use Rattle.pruned_answers.proofs.KeptPlans.{pruned_texts_keep_plans, refused_have_no_solution}
 use Rattle.htn_cli.specs.Pruning.{kept_line_of, SpellPruned}
 use Rattle.htn_cli.specs.Refusal.{line_of}
 use Rattle.htn_cli.specs.Sent.{TakesWhole, Told}
 use Rattle.htn_cli.specs.promise.Pruning.{ArePrunedTexts, KeepsPruned, TellsUnsolved}
 use Rattle.htn_cli.specs.declared.refusal.Finding.TheVariants as finding
 use Rattle.htn_cli.specs.declared.refusal.Refusal.TheVariants as refused
-use Rattle.htn_cli.proofs.PruneLaws.{PruneLaws}
 
 -- The numbers of a sound value are in range.
 module _ (h : Hddl) (sound : IsSoundHddl h) where
@@ -63,7 +65,7 @@ module _ (h : Hddl) (is_numbered : IsNumbered h) (live : Parts) (kept : Kept) (a
       length-map (only h.methods kept.methods) (renamed_method kept)
       ∙ only_length h.methods kept.methods (λ n k. (let (c, s, e, r) = (are.methods n).0 k in slice_get_within h.methods n s e))
 
-module _ (laws : PruneLaws) (d p : List ℕ) where
+module _ (d p : List ℕ) where
   module _ (value : Hddl) (spell : SpellPruned d p value) (od op : List ℕ) (domain_is : hddl_domain_text value ≡ od) (problem_is : hddl_problem_text value ≡ op) where
     abbrev source : Hddl
     source = spell.source
@@ -84,7 +86,7 @@ module _ (laws : PruneLaws) (d p : List ℕ) where
 
       is_too : IsPruned h small
       is_too =
-          let a = laws.alike d p source h read.spelled s read.sound in
+          let a = values_pruned_alike d p source h read.spelled s read.sound in
           record {
             live = is.live;
             live_is = (a.live is.live).0 is.live_is;
@@ -96,7 +98,7 @@ module _ (laws : PruneLaws) (d p : List ℕ) where
 
       each : ArePrunedTexts (length value.tasks) (length value.methods) (length value.actions) od op h
       each =
-          let a = laws.alike d p source h read.spelled s read.sound in
+          let a = values_pruned_alike d p source h read.spelled s read.sound in
           let own = numbered source read.sound.value in
           let there = numbered h sound in
           record {
@@ -107,7 +109,7 @@ module _ (laws : PruneLaws) (d p : List ℕ) where
             actions_are = ap (λ (z : Hddl). length z.actions) is.is ∙ actions_kept source own is.live is.kept is.kept_is;
             domain_is = sym domain_is ∙ ap hddl_domain_text is.is ∙ a.domain is.kept;
             problem_is = sym problem_is ∙ ap hddl_problem_text is.is ∙ a.problem is.kept;
-            spelled = λ sound ordered. laws.spell d p h s sound ordered small is_too;
+            spelled = λ sound ordered. pruned_texts_spell d p h s sound ordered small is_too;
             solutions = λ checks new old is_new is_old. record {
               same = same h checks old new there is_old is.live is.kept is_too.live_is is_too.kept_is is_new;
               as_wide = as_wide h checks old new there is_old is.live is.kept is_too.live_is is_too.kept_is is_new;
@@ -124,7 +126,7 @@ module _ (laws : PruneLaws) (d p : List ℕ) where
       actions = length value.actions;
       told = told;
       kept = each;
-      plans = subst (λ z. KeepPlans d p od z) problem_is (subst (λ z. KeepPlans d p z (hddl_problem_text value)) domain_is (laws.keep d p source read.spelled read.sound read.ordered value is));
+      plans = subst (λ z. KeepPlans d p od z) problem_is (subst (λ z. KeepPlans d p z (hddl_problem_text value)) domain_is (pruned_texts_keep_plans d p source read.spelled read.sound read.ordered value is));
     }
 
   -- a problem that can't be solved
@@ -132,6 +134,6 @@ module _ (laws : PruneLaws) (d p : List ℕ) where
       → Told (line_of (refused.Finding finding.NoSolution)) err err' → TellsUnsolved d p err err'
   unsolved_here source read cannot err err' told = record {
     told = told;
-    cause = λ h s. ((laws.one d p source h read.spelled s read.sound).refused).0 cannot;
-    none = laws.none d p source read.spelled read.sound read.ordered cannot;
+    cause = λ h s. ((values_have_one_outcome d p source h read.spelled s read.sound).refused).0 cannot;
+    none = refused_have_no_solution d p source read.spelled read.sound read.ordered cannot;
   }

@@ -6,13 +6,12 @@ use Rattle.text_forms.specs.sheets.Sheets.{capped}
 use Rattle.hddl_reader.specs.declared.sections.Language.TheVariants as language
 use Rattle.plan_model.specs.declared.options.Checks.TheVariants.{Leaf}
 use Rattle.plan_model.specs.declared.values.Hddl.{Hddl}
-use Rattle.plan_texts.specs.SoundProblem.{IsSoundProblem}
 use Rattle.text_values.specs.TextFaults.{IsLeastFault, in_domain, in_problem}
 use Rattle.text_values.specs.Values.{IsValueOf}
 use Rattle.text_answers.specs.Existence.{FaultlessHddlHasAValue}
 use Rattle.hddl_prune.specs.Pruning.{IsPruned, CannotBeSolved}
 use Rattle.hddl_texts.specs.PrintedHddl.{hddl_domain_text, hddl_problem_text}
-use Rattle.pruned_answers.specs.PruneLaws.{IsPrunedSomehow}
+use Rattle.pruned_answers.proofs.OneOutcome.{pruned_somehow}
 use Rattle.command_words.specs.Words.{PruneRequest, to_prune}
 use Rattle.htn_cli.specs.Pruning.{pruned_output, SpellPruned}
 use Rattle.htn_cli.specs.Texts.{IsFirstTooLong}
@@ -23,8 +22,7 @@ use Rattle.htn_cli.proofs.Prunings.{prune_fits}
 use Rattle.htn_cli.proofs.SomeInputs.{Finished, declined_texts, given_output, by_fault}
 use Rattle.htn_cli.proofs.SomeProblem.{Fault, Problem, fault_or_problem}
 
-module _ (value : FaultlessHddlHasAValue) (somehow : (h : Hddl) → IsSoundProblem h → IsPrunedSomehow h) (r : PruneRequest) (d p : List ℕ)
-    (domain_short : length d ≤ longest_input) (problem_short : length p ≤ longest_input) where
+module _ (value : FaultlessHddlHasAValue) (r : PruneRequest) (d p : List ℕ) (domain_short : length d ≤ longest_input) (problem_short : length p ≤ longest_input) where
   abbrev Has : Type 0
   Has = Finished (to_prune r) (d ∷ p ∷ [])
 
@@ -54,7 +52,7 @@ module _ (value : FaultlessHddlHasAValue) (somehow : (h : Hddl) → IsSoundProbl
 
   by_meaning : Fault value d p domain_short problem_short Leaf ⊎ Problem value d p domain_short problem_short Leaf → Has
   by_meaning (inl (file, code, at, x)) = by_file file code at x
-  by_meaning (inr (c, is)) = by_outcome is.value is.read (somehow is.value is.read.sound)
+  by_meaning (inr (c, is)) = by_outcome is.value is.read (pruned_somehow is.value is.read.sound)
 
   pub pruning_finished : Has
   pruning_finished = by_meaning (fault_or_problem value d p domain_short problem_short Leaf)

@@ -1,6 +1,5 @@
 use Rattle.htn_cli.proofs.OneAnswers.{each_has_one_answer}
-use Rattle.htn_cli.proofs.PruneLaws.{prune_laws}
 use Rattle.htn_cli.proofs.laws.one_answer.Goals as goal
 
 pub returns : goal.returns
-returns c = each_has_one_answer c.each_is_decoded_once.ensures c.values_are_decoded_alike.ensures c.each_is_encoded_once.ensures c.values_are_encoded_alike.ensures c.each_is_spelled_once.ensures c.values_have_one_ground_bound.ensures prune_laws
+returns c = each_has_one_answer c.each_is_decoded_once.ensures c.values_are_decoded_alike.ensures c.each_is_encoded_once.ensures c.values_are_encoded_alike.ensures c.each_is_spelled_once.ensures c.values_have_one_ground_bound.ensures
