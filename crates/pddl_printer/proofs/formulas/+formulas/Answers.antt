@@ -1,8 +1,8 @@
-use Rattle.std.proofs.Common.{refl, ◌≡◌, List, [], ◌∷◌, ◌++◌, map, codes, ap, sym, ◌∙◌, append_assoc}
-use Rattle.std.proofs.lemmas.List.{append-nil, map-append}
-use Rattle.text_forms.specs.Lists.{Part, Parts, group, nothing, part}
+use Rattle.std.proofs.Common.{refl, List, ◌∷◌, map, codes, ap, sym, ◌∙◌}
+use Rattle.std.proofs.lemmas.List.{map-append}
+use Rattle.text_forms.specs.Lists.{Parts, group, nothing, part}
 use Rattle.text_forms.specs.Words.{Word}
-use Rattle.text_forms.specs.Printing.{bytes_behind, headed}
+use Rattle.text_forms.specs.Printing.{bytes_behind}
 use Rattle.plan_texts.specs.SpellsPddl.{pddl_words}
 use Rattle.plan_texts.specs.Printed.{all_parts, params_parts, formula_part}
 use Rattle.pddl_printer.specs.Behind.{behind}

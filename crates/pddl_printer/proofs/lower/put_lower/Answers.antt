@@ -1,4 +1,4 @@
-use Rattle.std.proofs.Common.{ℕ, ◌≡◌, ◌+◌, ◌-◌, ap, sym, arith}
+use Rattle.std.proofs.Common.{◌≡◌, ◌+◌, ◌-◌, ap, sym, arith}
 use Rattle.text_forms.proofs.sheets.Written.{wrote-as, wrote-nothing, wrote-then}
 use Rattle.pddl_printer.specs.Behind.{of_each}
 use Rattle.pddl_printer.specs.LowerFacts.{facts_of, rows}

@@ -1,4 +1,4 @@
-use Rattle.std.proofs.Common.{ℕ, ◌+◌, ◌-◌, ◌++◌, ap, sym, ◌∙◌, arith}
+use Rattle.std.proofs.Common.{◌+◌, ◌-◌, ◌++◌, ap, sym, ◌∙◌, arith}
 use Rattle.text_forms.proofs.sheets.Written.{wrote-as}
 use Rattle.pddl_printer.specs.LowerFacts.{is_lower, lower_with}
 use Rattle.pddl_printer.specs.Texts.{fact_text}

@@ -1,4 +1,4 @@
-use Rattle.std.proofs.Common.{ℕ, suc, ◌≡◌, ◌+◌, ◌-◌, List, [], ◌∷◌, map, codes, ap, sym, ◌∙◌, arith}
+use Rattle.std.proofs.Common.{suc, ◌≡◌, ◌+◌, ◌-◌, List, map, codes, ap, sym, ◌∙◌, arith}
 use Rattle.text_forms.specs.Lists.{nothing, part}
 use Rattle.text_forms.specs.Words.{Word}
 use Rattle.plan_model.specs.task_networks.Spelling.{numbers}

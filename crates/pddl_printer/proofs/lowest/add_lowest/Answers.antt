@@ -1,4 +1,4 @@
-use Rattle.std.proofs.Common.{List, [], ◌∷◌, ◌++◌, map, codes, ap, sym, ◌∙◌}
+use Rattle.std.proofs.Common.{List, [], ◌∷◌, codes, ap, sym}
 use Rattle.std.proofs.lemmas.List.{map-append}
 use Rattle.text_forms.specs.Lists.{group}
 use Rattle.text_forms.specs.Words.{Word}
