@@ -5,11 +5,10 @@ use Rattle.plan_texts.specs.FirstSeen.{IsHddlOf}
 use Rattle.plan_texts.specs.SoundValue.{IsSoundHddl}
 use Rattle.plan_texts.specs.PrintedTexts.{domain_text, problem_text}
 use Rattle.plan_model.specs.plan_meaning.Compilation.{IsCompiled}
-use Rattle.slot_encoding.specs.FirstFree.{IsFirstEncoded, HasWordsBy}
-use Rattle.slot_encoding.specs.encoded_texts.FullyEncoded.{IsFullyEncoded}
+use Rattle.slot_encoding.specs.encoded_texts.FullyEncoded.{IsFullyEncodedBy}
 use Rattle.plan_model.specs.declared.options.Checks.{Checks}
 use Rattle.plan_model.specs.declared.options.Slots.{Slots}
-use Rattle.plan_model.specs.declared.options.Slots.TheVariants.{Any, First}
+use Rattle.plan_model.specs.declared.options.Slots.TheVariants.{Any}
 use Rattle.plan_model.specs.declared.options.Style.{Style}
 use Rattle.plan_model.specs.declared.values.Hddl.{Hddl}
 use Rattle.plan_model.specs.declared.values.Compiled.{Compiled}
@@ -18,16 +17,6 @@ use Rattle.plan_model.specs.declared.values.Pddl.{Pddl}
 -- one compiled value in this mode, and no other
 abbrev pub HasOneCompiled : Hddl → Checks → Type 0
 HasOneCompiled h mode = (c : Compiled) × IsCompiled h mode c × ((d : Compiled) → IsCompiled h mode d → d ≡ c)
-
--- what is encoded of the compiled value over a table with all its words, where a method takes the lowest free slots
-pub record IsFullyFirstEncoded (c : Compiled) (b : ℕ) (style : Style) (p : Pddl) : Type 0 where
-  pub encoded : IsFirstEncoded c b style p
-  pub words : HasWordsBy First c b p.names
-
--- the same by which free slots a method takes
-abbrev pub IsFullyEncodedBy : Slots → Compiled → ℕ → Style → Pddl → Type 0
-IsFullyEncodedBy Any = IsFullyEncoded
-IsFullyEncodedBy First = IsFullyFirstEncoded
 
 -- The two printed texts of two source texts: of some sound value that they spell, with preconditions checked in this mode, b slots,
 -- of which a method takes those of this choice, and this style.
