@@ -24,7 +24,7 @@ use Rattle.slot_encoding.specs.SourceParts.{source_param}
 use Rattle.slot_encoding.specs.EncodedNames.{slot_type, first_slot, slot_param}
 use Rattle.slot_encoding.specs.EncodedActions.{spare, encoded_method, encoded_check, encoded_action}
 use Rattle.slot_encoding.specs.EncodedValue.{encoded_actions}
-use Rattle.slot_encoding.specs.Printed.{IsPrinted}
+use Rattle.slot_encoding.proofs.places.WellWorded.{IsWellWorded}
 use Rattle.slot_encoding.proofs.Pieces.{IsSlotObject, IsSlot, slot_object, IsActBy, StepsAreActs}
 use Rattle.slot_encoding.proofs.places.ListPlaces.{get_within, get_contains, contains_get, append_same}
 use Rattle.slot_encoding.proofs.places.Predicates.{is_checked, passed_once, passed_within}
@@ -33,7 +33,7 @@ use Rattle.plan_proof.proofs.machine.ObjectWords.{same_objects, same_words, join
 use Rattle.slot_encoding.proofs.places.ActionPlaces.{check_place, action_place, method_at, check_at, action_at, IsOfMethod, IsOfCheck, IsOfAction, action_cases}
 use Rattle.plan_proof.proofs.machine.ActionWords.{IsNamed, same_action, method_named, check_named, action_named, method_slots, length-slots, are_slots, work_slots}
 
-module _ (h : Hddl) (mode : Checks) (c : Compiled) (b : ℕ) (style : Style) (p : Pddl) (is : IsPrinted h mode c b style p) where
+module _ (h : Hddl) (mode : Checks) (c : Compiled) (b : ℕ) (style : Style) (p : Pddl) (is : IsWellWorded h mode c b style p) where
   abbrev slot : ℕ → ℕ
   slot = slot_object c b style p
 
@@ -194,19 +194,19 @@ module _ (h : Hddl) (mode : Checks) (c : Compiled) (b : ℕ) (style : Style) (p 
         elim (action_cases c p.names b style k a f) [ inl m ↦ of_method k f m | inr r ↦ elim r [ inl m ↦ of_check k f m | inr m ↦ of_action k f m ] ]
 
   -- the place of an act's action
-  abbrev place_of : Act (network c) → ℕ
+  abbrev pub place_of : Act (network c) → ℕ
   place_of (apply k new g) = g.number
   place_of (run k (check m values)) = check_place c p.names b style m
   place_of (run k (action n args)) = action_place c p.names b style n
   place_of (run k (task t args)) = 0
 
   -- an act's action, with its word, slots and objects
-  record Shows (act : Act (network c)) (a : ActionSchema) (os : List ℕ) : Type 0 where
-    named : IsNamed h mode c b style p is (place_of act) a (step_of c act).name
-    objects : AreObjects p os (step_of c act).args
-    typed : AreTyped (Printed.InTypeOf p) a.params os
+  pub record Shows (act : Act (network c)) (a : ActionSchema) (os : List ℕ) : Type 0 where
+    pub named : IsNamed h mode c b style p is (place_of act) a (step_of c act).name
+    pub objects : AreObjects p os (step_of c act).args
+    pub typed : AreTyped (Printed.InTypeOf p) a.params os
 
-  shown : (act : Act (network c)) (a : ActionSchema) (os : List ℕ) → IsBy act a os → Shows act a os
+  pub shown : (act : Act (network c)) (a : ActionSchema) (os : List ℕ) → IsBy act a os → Shows act a os
   shown (apply k new g) a os r =
       let m = g.number in
       let front = method_slots h mode c b style p is m r.plan in
