@@ -50,7 +50,7 @@ module _ (c d : Hddl) (t : AreAlikeSound c d) where
   child_in : (r s : MethodSchema) → method_said v r ≡ method_said w s → (child : Child) → Contains s.children child → (other : Child) × Contains r.children other × (other.head ≡ child.head)
   child_in r s e child k =
       let (x, h, f) = has-of_map (child_said v) r.children (child_said w child)
-          (subst (λ z. Has z (child_said w child)) (sym (ap (λ z. z.4.1) e)) (has-to_map (child_said w) s.children child (contains-has s.children child k))) in
+      (subst (λ z. Has z (child_said w child)) (sym (ap (λ z. z.4.1) e)) (has-to_map (child_said w) s.children child (contains-has s.children child k))) in
       (x, has-contains r.children x h, ap (λ z. z.1) f)
 
   module _ (parts : Parts) where

@@ -50,9 +50,6 @@ module _ (c d : Compiled) (mode : Checks) (hc : HasSoundWords (source c.hddl)) (
   abbrev IsSaid : MethodSchema → MethodSchema → Type 0
   IsSaid s t = method_said v s ≡ method_said w t
 
-  abbrev uncalled : Call v → Head × List Term
-  uncalled z = (z.1, z.2)
-
   written : (s t : MethodSchema) → IsSaid s t → AreWrittenAlike s t
   written s t e = record {
     task = ap (λ z. z.1) e;
@@ -102,7 +99,7 @@ module _ (c d : Compiled) (mode : Checks) (hc : HasSoundWords (source c.hddl)) (
     pre = λ m p q e f S S' h values. (
         let x = at_both Pair (slice_get c.methods m) (slice_get d.methods m) (at_place Pair c.methods d.methods pairs m) p q e f in
         same_truth c.hddl d.hddl hc hd alike S S' h.same p.schema.pre q.schema.pre
-            (ap (λ (z : MethodSchema). said v z.pre) x.plan.schema ∙ ap (λ z. z.3) x.together ∙ sym (ap (λ (z : MethodSchema). said w z.pre) x.other_plan.schema)) values);
+        (ap (λ (z : MethodSchema). said v z.pre) x.plan.schema ∙ ap (λ z. z.3) x.together ∙ sym (ap (λ (z : MethodSchema). said w z.pre) x.other_plan.schema)) values);
     action = λ a. stand_map IsSaidAction (SameAction c d) (λ s u r. record { word = ap (λ z. escaped z.0) r; typed = same_types c.hddl d.hddl hc hd alike s.params u.params (ap (λ z. z.1) r) }) (slice_get c.hddl.actions a) (slice_get d.hddl.actions a) (actions a);
     condition = λ a s u e f S S' h values. same_truth c.hddl d.hddl hc hd alike S S' h.same s.pre u.pre (ap (λ z. z.2) (at_both IsSaidAction (slice_get c.hddl.actions a) (slice_get d.hddl.actions a) (actions a) s u e f)) values;
     effect = λ a s u e f S S' h values g. same_after c.hddl d.hddl hc hd alike S S' h.same s.eff u.eff (ap (λ z. z.3) (at_both IsSaidAction (slice_get c.hddl.actions a) (slice_get d.hddl.actions a) (actions a) s u e f)) values g;
