@@ -1,5 +1,5 @@
 -- The same is live in alike values, the same is kept of them, and both may be solved or neither.
-use Rattle.std.proofs.Common.{ℕ, ◌≡◌, ◌↔◌, List, [], ◌∷◌, map, Some, slice_get, refl, ap, sym, subst, ◌∙◌, Contains}
+use Rattle.std.proofs.Common.{ℕ, ◌≡◌, ◌↔◌, Some, slice_get, ap, sym, subst, Contains}
 use Rattle.plan_texts.specs.Declared.{Declared}
 use Rattle.plan_texts.specs.SpellsHddl.{hddl_words}
 use Rattle.plan_texts.specs.Said.{said, done}
@@ -18,7 +18,7 @@ use Rattle.plan_model.specs.declared.values.Hddl.{Hddl}
 use Rattle.plan_proof.specs.SoundWords.{HasSoundWords}
 use Rattle.plan_proof.proofs.values.Pairing.{got}
 use Rattle.plan_proof.proofs.texts.TypeWords.{InWords}
-use Rattle.live_parts.specs.Live.{Parts, AddsOf, AreAmong, IsLiveHead, TypeOf, MayHold, IsLiveMethod, AreClosed, AreLive, MayBeSolved}
+use Rattle.live_parts.specs.Live.{Parts, AddsOf, IsLiveHead, TypeOf, MayHold, IsLiveMethod, AreClosed, AreLive, MayBeSolved}
 use Rattle.live_parts.specs.Kept.{Kept, IsReached, below_top, below, IsKeptMethod, AreKept}
 use Rattle.pruned_answers.proofs.Meanings.{source, in_here, in_there}
 use Rattle.pruned_answers.proofs.MaySaid.{MaySaid, may_said, AddsOfSaid, adds_of_said}

@@ -1,5 +1,5 @@
 -- The printed texts of what is kept have the plans of the problem; and texts that cannot be solved have none.
-use Rattle.std.proofs.Common.{ℕ, ◌≡◌, ◌↔◌, List, subst, sym}
+use Rattle.std.proofs.Common.{ℕ, ◌↔◌, List, subst, sym}
 use Rattle.plan_texts.specs.FirstSeen.{IsHddlOf}
 use Rattle.plan_texts.specs.PrintedTexts.{domain_text, problem_text}
 use Rattle.plan_texts.specs.SoundProblem.{IsSoundProblem}
@@ -21,7 +21,6 @@ use Rattle.live_parts.specs.Pruned.{pruned}
 use Rattle.live_parts.proofs.KeptNodes.{solved_may_be_solved}
 use Rattle.live_parts.proofs.PrunedSolutions.{spelled}
 use Rattle.live_parts.proofs.PrunedSound.{sound_is_numbered}
-use Rattle.hddl_prune.specs.Pruning.{IsPruned, CannotBeSolved}
 use Rattle.hddl_texts.specs.PrintedHddl.{hddl_domain_text, hddl_problem_text}
 use Rattle.hddl_texts.specs.Ids.{with_ids}
 use Rattle.hddl_texts.proofs.PrintedIds.{still-ordered}
@@ -30,7 +29,7 @@ use Rattle.plan_proof.specs.OneText.{HasOneCompiled}
 use Rattle.plan_proof.specs.TextPlans.{IsPlanOf}
 use Rattle.plan_proof.proofs.machine.PrintedMeans.{printed_faithful, faithful_texts}
 use Rattle.plan_proof.proofs.one.SomeCompiled.{has_one_compiled}
-use Rattle.pruned_answers.specs.PrunedTexts.{AreItsTexts, IsPrintedOf, KeepPlans, HaveNoSolution, PrunedTextsKeepPlans, RefusedHaveNoSolution}
+use Rattle.pruned_answers.specs.PrunedTexts.{AreItsTexts, IsPrintedOf, KeepPlans, PrunedTextsKeepPlans, RefusedHaveNoSolution}
 use Rattle.pruned_answers.proofs.AlikeTwins.{spelled_twins}
 use Rattle.pruned_answers.proofs.IdTwins.{id_twins}
 use Rattle.pruned_answers.proofs.PrunedTexts.{ordered_alike, kept_texts}
