@@ -1,5 +1,5 @@
 -- The same is live in alike values, the same is kept of them, and both may be solved or neither.
-use Rattle.std.proofs.Common.{ℕ, ◌≡◌, ◌↔◌, List, [], ◌∷◌, map, Some, slice_get, refl, ap, sym, subst, ◌∙◌, Contains}
+use Rattle.std.proofs.Common.{ℕ, ◌≡◌, ◌↔◌, Some, slice_get, ap, sym, subst, Contains}
 use Rattle.plan_texts.specs.Declared.{Declared}
 use Rattle.plan_texts.specs.SpellsHddl.{hddl_words}
 use Rattle.plan_texts.specs.Said.{said, done}
@@ -18,7 +18,7 @@ use Rattle.plan_model.specs.declared.values.Hddl.{Hddl}
 use Rattle.plan_proof.specs.SoundWords.{HasSoundWords}
 use Rattle.plan_proof.proofs.values.Pairing.{got}
 use Rattle.plan_proof.proofs.texts.TypeWords.{InWords}
-use Rattle.live_parts.specs.Live.{Parts, AddsOf, AreAmong, IsLiveHead, TypeOf, MayHold, IsLiveMethod, AreClosed, AreLive, MayBeSolved}
+use Rattle.live_parts.specs.Live.{Parts, AddsOf, IsLiveHead, TypeOf, MayHold, IsLiveMethod, AreClosed, AreLive, MayBeSolved}
 use Rattle.live_parts.specs.Kept.{Kept, IsReached, below_top, below, IsKeptMethod, AreKept}
 use Rattle.pruned_answers.proofs.Meanings.{source, in_here, in_there}
 use Rattle.pruned_answers.proofs.MaySaid.{MaySaid, may_said, AddsOfSaid, adds_of_said}
@@ -50,7 +50,7 @@ module _ (c d : Hddl) (t : AreAlikeSound c d) where
   child_in : (r s : MethodSchema) → method_said v r ≡ method_said w s → (child : Child) → Contains s.children child → (other : Child) × Contains r.children other × (other.head ≡ child.head)
   child_in r s e child k =
       let (x, h, f) = has-of_map (child_said v) r.children (child_said w child)
-          (subst (λ z. Has z (child_said w child)) (sym (ap (λ z. z.4.1) e)) (has-to_map (child_said w) s.children child (contains-has s.children child k))) in
+      (subst (λ z. Has z (child_said w child)) (sym (ap (λ z. z.4.1) e)) (has-to_map (child_said w) s.children child (contains-has s.children child k))) in
       (x, has-contains r.children x h, ap (λ z. z.1) f)
 
   module _ (parts : Parts) where

@@ -1,33 +1,28 @@
 -- What is compiled of two values that two texts spell is the same but for numbers; so is what is compiled with other ids of subtasks.
-use Rattle.std.proofs.Common.{ℕ, suc, ◌≡◌, ◌↔◌, List, [], ◌∷◌, map, length, Option, Some, None, slice_get, refl, ap, sym, subst, ◌∙◌, Contains}
+use Rattle.std.proofs.Common.{ℕ, ◌≡◌, List, ◌∷◌, map, Option, Some, None, slice_get, ap, sym, subst, ◌∙◌}
 use Rattle.htn_base.specs.Escapes.{escaped}
-use Rattle.text_forms.specs.Words.{Word}
 use Rattle.plan_texts.specs.Declared.{Declared, named}
 use Rattle.plan_texts.specs.SpellsHddl.{hddl_words, SpellsHddl}
 use Rattle.plan_texts.specs.Said.{typed, said}
-use Rattle.plan_texts.specs.Alike.{Call, child_said, method_said, action_said, task_said, object_said, AreAlikeHddl}
+use Rattle.plan_texts.specs.Alike.{child_said, method_said, action_said, task_said, object_said, AreAlikeHddl}
 use Rattle.plan_texts.specs.Together.{Together}
 use Rattle.plan_texts.proofs.Together.{maps-length, together-of_maps}
 use Rattle.plan_texts.proofs.Unique.{map-map}
 use Rattle.plan_texts.proofs.UniqueHddl.{hddl_alike}
 use Rattle.plan_model.specs.declared.options.Checks.{Checks}
-use Rattle.plan_model.specs.declared.terms.Term.{Term}
-use Rattle.plan_model.specs.declared.types.Object.{Object}
-use Rattle.plan_model.specs.declared.networks.Head.{Head}
-use Rattle.plan_model.specs.declared.schemas.TaskSchema.{TaskSchema}
 use Rattle.plan_model.specs.declared.schemas.ActionSchema.{ActionSchema}
 use Rattle.plan_model.specs.declared.schemas.MethodSchema.{MethodSchema}
 use Rattle.plan_model.specs.declared.schemas.MethodPlan.{MethodPlan}
 use Rattle.plan_model.specs.declared.values.Hddl.{Hddl}
 use Rattle.plan_model.specs.declared.values.Compiled.{Compiled}
-use Rattle.plan_model.specs.plan_meaning.Compilation.{AsksSomething, AreMethodPlans, IsCompiled}
+use Rattle.plan_model.specs.plan_meaning.Compilation.{AreMethodPlans, IsCompiled}
 use Rattle.plan_proof.specs.SoundWords.{HasSoundWords}
 use Rattle.plan_proof.proofs.values.SameTypes.{counts}
-use Rattle.decode_answers.proofs.AlikeValues.{HoldTheSame, StandTogether, at_place}
+use Rattle.decode_answers.proofs.AlikeValues.{StandTogether, at_place}
 use Rattle.pruned_answers.proofs.Meanings.{source, same_types, same_truth, same_after}
 use Rattle.pruned_answers.proofs.SpelledWords.{spelled_words}
-use Rattle.pruned_answers.proofs.SamePlans.{AreWrittenAlike, AreCompiledAlike, compiled_alike, ArePlansOf, plans_together}
-use Rattle.pruned_answers.proofs.Twins.{call, SamePlan, SameAction, SameTask, SameObject, AreTwins}
+use Rattle.pruned_answers.proofs.SamePlans.{AreWrittenAlike, compiled_alike, ArePlansOf, plans_together}
+use Rattle.pruned_answers.proofs.Twins.{SamePlan, SameAction, SameTask, SameObject, AreTwins}
 
 pub stand_map : {X Y : Type 0} (R Q : X → Y → Type 0) → ((x : X) (y : Y) → R x y → Q x y) → (o : Option X) (u : Option Y) → StandTogether R o u → StandTogether Q o u
 stand_map R Q f None None r = tt
@@ -49,9 +44,6 @@ module _ (c d : Compiled) (mode : Checks) (hc : HasSoundWords (source c.hddl)) (
 
   abbrev IsSaid : MethodSchema → MethodSchema → Type 0
   IsSaid s t = method_said v s ≡ method_said w t
-
-  abbrev uncalled : Call v → Head × List Term
-  uncalled z = (z.1, z.2)
 
   written : (s t : MethodSchema) → IsSaid s t → AreWrittenAlike s t
   written s t e = record {
@@ -102,7 +94,7 @@ module _ (c d : Compiled) (mode : Checks) (hc : HasSoundWords (source c.hddl)) (
     pre = λ m p q e f S S' h values. (
         let x = at_both Pair (slice_get c.methods m) (slice_get d.methods m) (at_place Pair c.methods d.methods pairs m) p q e f in
         same_truth c.hddl d.hddl hc hd alike S S' h.same p.schema.pre q.schema.pre
-            (ap (λ (z : MethodSchema). said v z.pre) x.plan.schema ∙ ap (λ z. z.3) x.together ∙ sym (ap (λ (z : MethodSchema). said w z.pre) x.other_plan.schema)) values);
+        (ap (λ (z : MethodSchema). said v z.pre) x.plan.schema ∙ ap (λ z. z.3) x.together ∙ sym (ap (λ (z : MethodSchema). said w z.pre) x.other_plan.schema)) values);
     action = λ a. stand_map IsSaidAction (SameAction c d) (λ s u r. record { word = ap (λ z. escaped z.0) r; typed = same_types c.hddl d.hddl hc hd alike s.params u.params (ap (λ z. z.1) r) }) (slice_get c.hddl.actions a) (slice_get d.hddl.actions a) (actions a);
     condition = λ a s u e f S S' h values. same_truth c.hddl d.hddl hc hd alike S S' h.same s.pre u.pre (ap (λ z. z.2) (at_both IsSaidAction (slice_get c.hddl.actions a) (slice_get d.hddl.actions a) (actions a) s u e f)) values;
     effect = λ a s u e f S S' h values g. same_after c.hddl d.hddl hc hd alike S S' h.same s.eff u.eff (ap (λ z. z.3) (at_both IsSaidAction (slice_get c.hddl.actions a) (slice_get d.hddl.actions a) (actions a) s u e f)) values g;

@@ -1,5 +1,5 @@
 -- The printed texts of what is kept have the plans of the problem; and texts that cannot be solved have none.
-use Rattle.std.proofs.Common.{ℕ, ◌≡◌, ◌↔◌, List, subst, sym}
+use Rattle.std.proofs.Common.{ℕ, ◌↔◌, List, subst, sym}
 use Rattle.plan_texts.specs.FirstSeen.{IsHddlOf}
 use Rattle.plan_texts.specs.PrintedTexts.{domain_text, problem_text}
 use Rattle.plan_texts.specs.SoundProblem.{IsSoundProblem}
@@ -21,7 +21,6 @@ use Rattle.live_parts.specs.Pruned.{pruned}
 use Rattle.live_parts.proofs.KeptNodes.{solved_may_be_solved}
 use Rattle.live_parts.proofs.PrunedSolutions.{spelled}
 use Rattle.live_parts.proofs.PrunedSound.{sound_is_numbered}
-use Rattle.hddl_prune.specs.Pruning.{IsPruned, CannotBeSolved}
 use Rattle.hddl_texts.specs.PrintedHddl.{hddl_domain_text, hddl_problem_text}
 use Rattle.hddl_texts.specs.Ids.{with_ids}
 use Rattle.hddl_texts.proofs.PrintedIds.{still-ordered}
@@ -30,14 +29,14 @@ use Rattle.plan_proof.specs.OneText.{HasOneCompiled}
 use Rattle.plan_proof.specs.TextPlans.{IsPlanOf}
 use Rattle.plan_proof.proofs.machine.PrintedMeans.{printed_faithful, faithful_texts}
 use Rattle.plan_proof.proofs.one.SomeCompiled.{has_one_compiled}
-use Rattle.pruned_answers.specs.PrunedTexts.{AreItsTexts, IsPrintedOf, KeepPlans, HaveNoSolution, PrunedTextsKeepPlans, RefusedHaveNoSolution}
+use Rattle.pruned_answers.specs.PrunedTexts.{AreItsTexts, IsPrintedOf, KeepPlans, PrunedTextsKeepPlans, RefusedHaveNoSolution}
 use Rattle.pruned_answers.proofs.AlikeTwins.{spelled_twins}
 use Rattle.pruned_answers.proofs.IdTwins.{id_twins}
 use Rattle.pruned_answers.proofs.PrunedTexts.{ordered_alike, kept_texts}
 use Rattle.pruned_answers.proofs.Twins.{AreTwins, twins_back, solution_to, spelled_to}
 
 -- the same lists spell a solution of twins
-pub twins_spell : (c d : Compiled) → AreTwins c d → (b : ℕ) (steps : List GroundAction) → SpellsSolution c b steps ↔ SpellsSolution d b steps
+twins_spell : (c d : Compiled) → AreTwins c d → (b : ℕ) (steps : List GroundAction) → SpellsSolution c b steps ↔ SpellsSolution d b steps
 twins_spell c d t b steps = (to c d t, to d c (twins_back c d t))
   where
     to : (c d : Compiled) → AreTwins c d → SpellsSolution c b steps → SpellsSolution d b steps
@@ -50,9 +49,9 @@ back : {A B : Type 0} → A ↔ B → B ↔ A
 back f = (f.1, f.0)
 
 -- the plans of what is printed are the spelled solutions
-pub printed_plans : (h : Hddl) (checks : Checks) (c : Compiled) (b : ℕ) (style : Style) (p : Pddl) (domain problem : List ℕ) (t : IsPrintedOf domain problem checks b style p) → AreOrdered t.read
+printed_plans : (domain problem : List ℕ) (checks : Checks) (b : ℕ) (style : Style) (p : Pddl) (t : IsPrintedOf domain problem checks b style p) → AreOrdered t.read
     → (steps : List GroundAction) → IsPlanOf (domain_text p) (problem_text p) steps ↔ SpellsSolution t.compiled b steps
-printed_plans h checks c b style p domain problem t ordered = (faithful_texts t.compiled b p t.is.printable (printed_faithful t.read checks t.compiled b style p ordered t.is)).plans
+printed_plans domain problem checks b style p t ordered = (faithful_texts t.compiled b p t.is.printable (printed_faithful t.read checks t.compiled b style p ordered t.is)).plans
 
 module _ (domain problem : List ℕ) (h : Hddl) (spelled_here : IsHddlOf domain problem h) (sound : IsSoundProblem h) (ordered : AreOrdered h) where
   -- each value of the texts has no cycle
@@ -95,9 +94,9 @@ module _ (domain problem : List ℕ) (h : Hddl) (spelled_here : IsHddlOf domain 
     keep_plans = record {
       solutions = same_solutions;
       plans = λ checks b style other p q x y steps.
-          joined (printed_plans x.read checks x.compiled b style p domain problem x (read_ordered x.read x.spelled) steps)
+          joined (printed_plans domain problem checks b style p x (read_ordered x.read x.spelled) steps)
           (joined (same_solutions checks x.read y.read x.compiled y.compiled x.spelled y.spelled x.is.compiled y.is.compiled b steps)
-          (back (printed_plans y.read checks y.compiled b other q od op y (texts.read_ordered y.read y.spelled.spelled) steps)));
+          (back (printed_plans od op checks b other q y (texts.read_ordered y.read y.spelled.spelled) steps)));
     }
 
   pub pruned_texts_keep_plans : PrunedTextsKeepPlans h domain problem
@@ -107,7 +106,7 @@ module _ (domain problem : List ℕ) (h : Hddl) (spelled_here : IsHddlOf domain 
   refused_have_no_solution x = record {
     solutions = none;
     plans = λ checks b style p t steps is. (
-        let (tree, order, slot, s, y) = (printed_plans t.read checks t.compiled b style p domain problem t (read_ordered t.read t.spelled) steps).0 is in
+        let (tree, order, slot, s, y) = (printed_plans domain problem checks b style p t (read_ordered t.read t.spelled) steps).0 is in
         none checks t.read t.compiled t.spelled t.is.compiled tree order y);
   }
     where

@@ -1,5 +1,5 @@
 -- Which predicates may have true atoms goes by the words: whether a formula may be so, and what an effect adds, are decided by what these say.
-use Rattle.std.proofs.Common.{ℕ, ◌≡◌, ◌↔◌, ◌⊎◌, inl, inr, List, [], ◌∷◌, map, sym, subst, Contains}
+use Rattle.std.proofs.Common.{ℕ, ◌≡◌, ◌↔◌, ◌⊎◌, inl, inr, List, [], ◌∷◌, map, sym, subst}
 use Rattle.text_forms.specs.Words.{Word}
 use Rattle.plan_texts.specs.Declared.{Declared, kind_at}
 use Rattle.plan_texts.specs.Types.{Has}

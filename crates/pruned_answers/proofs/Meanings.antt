@@ -1,7 +1,5 @@
 -- What is in a type, what a condition means and what an effect changes go by the words: they are the same of alike values.
 use Rattle.std.proofs.Common.{ℕ, ◌≡◌, ◌↔◌, inl, inr, List, map, sym, subst}
-use Rattle.text_forms.specs.Lists.{Parts}
-use Rattle.text_forms.specs.Words.{Word}
 use Rattle.plan_texts.specs.Declared.{Declared, kind_at}
 use Rattle.plan_texts.specs.Said.{typed, said, done}
 use Rattle.plan_texts.specs.Alike.{AreAlikePddl, AreAlikeHddl}

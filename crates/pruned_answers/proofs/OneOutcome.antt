@@ -1,5 +1,5 @@
 -- Pruning comes to something, and to one thing alone, whichever value of two texts is taken.
-use Rattle.std.proofs.Common.{ℕ, ◌≡◌, ◌⊎◌, inl, inr, List, Some, slice_get, length, refl, ap, sym, subst, ◌∙◌, Contains}
+use Rattle.std.proofs.Common.{ℕ, ◌≡◌, ◌⊎◌, inl, inr, List, refl, sym, subst}
 use Rattle.plan_texts.specs.FirstSeen.{IsHddlOf}
 use Rattle.plan_texts.specs.SpellsHddl.{hddl_words}
 use Rattle.plan_texts.specs.SoundProblem.{IsSoundProblem}
@@ -44,11 +44,11 @@ module _ (h : Hddl) (some others : Parts) (are : AreLive h some) (are' : AreLive
 one_kept : (h : Hddl) (some others : Parts) → AreLive h some → AreLive h others → (kept kept' : Kept) → AreKept h some kept → AreKept h others kept' → kept ≡ kept'
 one_kept h some others are are' kept kept' x y =
     let a = increasing-same kept.tasks kept'.tasks x.tasks_in_order y.tasks_in_order
-            (λ t k. (y.tasks t).1 (more_reached h some others are are' (Task t) ((x.tasks t).0 k))) (λ t k. (x.tasks t).1 (more_reached h others some are' are (Task t) ((y.tasks t).0 k))) in
+    (λ t k. (y.tasks t).1 (more_reached h some others are are' (Task t) ((x.tasks t).0 k))) (λ t k. (x.tasks t).1 (more_reached h others some are' are (Task t) ((y.tasks t).0 k))) in
     let b = increasing-same kept.actions kept'.actions x.actions_in_order y.actions_in_order
-            (λ t k. (y.actions t).1 (more_reached h some others are are' (Action t) ((x.actions t).0 k))) (λ t k. (x.actions t).1 (more_reached h others some are' are (Action t) ((y.actions t).0 k))) in
+    (λ t k. (y.actions t).1 (more_reached h some others are are' (Action t) ((x.actions t).0 k))) (λ t k. (x.actions t).1 (more_reached h others some are' are (Action t) ((y.actions t).0 k))) in
     let m = increasing-same kept.methods kept'.methods x.methods_in_order y.methods_in_order
-            (λ n k. (y.methods n).1 (more_kept h some others are are' n ((x.methods n).0 k))) (λ n k. (x.methods n).1 (more_kept h others some are' are n ((y.methods n).0 k))) in
+    (λ n k. (y.methods n).1 (more_kept h some others are are' n ((x.methods n).0 k))) (λ n k. (x.methods n).1 (more_kept h others some are' are n ((y.methods n).0 k))) in
     λ i. record { tasks = a i; actions = b i; methods = m i }
 
 module _ (c d : Hddl) (t : AreAlikeSound c d) (same : AreSameButNames c d) where

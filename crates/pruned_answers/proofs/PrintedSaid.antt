@@ -6,7 +6,7 @@ use Rattle.text_forms.specs.Printing.{headed}
 use Rattle.plan_texts.specs.Declared.{Declared, named, variable}
 use Rattle.plan_texts.specs.Said.{Typed, typed, Said, Done}
 use Rattle.plan_texts.specs.Alike.{predicate_said, action_said, task_said, child_said, method_said}
-use Rattle.plan_texts.specs.Printed.{all_parts, term_part, params_parts}
+use Rattle.plan_texts.specs.Printed.{all_parts, term_part}
 use Rattle.plan_texts.specs.PrintedTexts.{predicate_part, action_part}
 use Rattle.plan_texts.specs.SpellsHddl.{hddl_words, task_words, action_words}
 use Rattle.plan_texts.specs.SoundValue.{scope_of}
@@ -22,7 +22,7 @@ use Rattle.plan_model.specs.declared.schemas.ActionSchema.{ActionSchema}
 use Rattle.plan_model.specs.declared.schemas.MethodSchema.{MethodSchema}
 use Rattle.plan_model.specs.declared.values.Hddl.{Hddl}
 use Rattle.slot_encoding.proofs.encoded_texts.SaidParts.{bare, words_of, words-typed, put_params, put, put_done, params-put, formula-put, effect-put}
-use Rattle.hddl_texts.specs.PrintedHddl.{subtask_word, bundled, order_part, called_part, head_word, subtasks_parts, constraint_part, network_parts, variables_part, task_part, method_part, top_part}
+use Rattle.hddl_texts.specs.PrintedHddl.{subtask_word, bundled, order_part, called_part, head_word, subtasks_parts, constraint_part, network_parts, task_part, method_part, top_part}
 
 abbrev pub SaidCall : Type 0
 SaidCall = Option Word × Head × List Term

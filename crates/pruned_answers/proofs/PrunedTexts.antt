@@ -1,11 +1,11 @@
 -- The texts that are printed of what is kept of a problem spell it.
-use Rattle.std.proofs.Common.{ℕ, ◌≡◌, ◌<◌, List, [], ◌∷◌, map, length, refl, ap, sym, subst, Contains}
+use Rattle.std.proofs.Common.{ℕ, ◌≡◌, ◌<◌, List, [], ◌∷◌, map, length, ap, sym, subst, Contains}
 use Rattle.std.proofs.lemmas.Option.{slice_get_within}
 use Rattle.text_forms.specs.Words.{Word}
 use Rattle.plan_texts.specs.Types.{EachIs}
 use Rattle.plan_texts.specs.Alike.{child_said, method_said, AreAlikeHddl}
 use Rattle.plan_texts.specs.FirstSeen.{IsHddlOf}
-use Rattle.plan_texts.specs.SpellsHddl.{hddl_words, SpellsHddl}
+use Rattle.plan_texts.specs.SpellsHddl.{hddl_words}
 use Rattle.plan_texts.specs.Printable.{IsSound, IsSoundEffect}
 use Rattle.plan_texts.specs.SoundValue.{arities, scope_of, IsSoundChild, IsSoundMethod}
 use Rattle.plan_texts.specs.SoundProblem.{IsSoundProblem}
@@ -28,8 +28,6 @@ use Rattle.live_parts.specs.Pruned.{only, renamed_child, renamed_method, pruned}
 use Rattle.live_parts.proofs.OnlyLists.{only_each}
 use Rattle.live_parts.proofs.PrunedNetwork.{reached_in}
 use Rattle.live_parts.proofs.PrunedSound.{sound_is_numbered, is_sound, is_ordered}
-use Rattle.hddl_prune.specs.Pruning.{IsPruned}
-use Rattle.hddl_texts.specs.PrintedHddl.{hddl_domain_text, hddl_problem_text}
 use Rattle.hddl_texts.specs.Ids.{with_constants, with_ids, IsOfTwoTexts}
 use Rattle.hddl_texts.proofs.DomainNames.{of_two_texts}
 use Rattle.hddl_texts.proofs.PrintedHddlSpells.{printed_hddl_spells}

@@ -1,11 +1,10 @@
 -- Methods that are written alike, whatever ids and types are numbered, are compiled alike.
-use Rattle.std.proofs.Common.{ℕ, suc, ◌≡◌, ◌≢◌, ◌↔◌, Bool, true, false, List, [], ◌∷◌, ◌++◌, map, length, Some, refl, ap, sym, subst, ◌∙◌}
+use Rattle.std.proofs.Common.{ℕ, suc, ◌≡◌, ◌≢◌, ◌↔◌, Bool, true, false, List, [], ◌∷◌, ◌++◌, map, length, Some, ap, sym, subst, ◌∙◌}
 use Rattle.plan_texts.specs.Together.{Together}
 use Rattle.plan_texts.proofs.Together.{maps-length}
 use Rattle.plan_model.specs.Pairs.{pair, Pairs}
 use Rattle.plan_model.specs.declared.terms.Term.TheVariants.{Var}
 use Rattle.plan_model.specs.declared.networks.Head.TheVariants.{Check}
-use Rattle.plan_model.specs.declared.networks.Child.{Child}
 use Rattle.plan_model.specs.declared.networks.Pair.{Pair}
 use Rattle.plan_model.specs.declared.options.Checks.{Checks}
 use Rattle.plan_model.specs.declared.schemas.MethodSchema.{MethodSchema}

@@ -1,5 +1,5 @@
 -- Values that are the same but for the numbers of names have the same two printed texts.
-use Rattle.std.proofs.Common.{ℕ, ◌≡◌, not, Bool, true, false, cond, List, [], ◌∷◌, ◌++◌, map, filter, codes, refl, ap, sym, ◌∙◌}
+use Rattle.std.proofs.Common.{◌≡◌, not, Bool, true, false, cond, List, [], ◌∷◌, ◌++◌, map, filter, codes, refl, ap, sym, ◌∙◌}
 use Rattle.text_forms.specs.Lists.{Part, name, nothing, part}
 use Rattle.text_forms.specs.Words.{Word, word_at}
 use Rattle.text_forms.specs.Printing.{headed, page}
@@ -7,7 +7,7 @@ use Rattle.plan_texts.specs.Declared.{Declared}
 use Rattle.plan_texts.specs.SpellsHddl.{hddl_words, task_words, action_words}
 use Rattle.plan_texts.specs.Alike.{object_said, predicate_said, action_said, task_said, method_said}
 use Rattle.plan_texts.specs.Printed.{all_parts, typed_parts, applied_part, formula_part}
-use Rattle.plan_texts.specs.PrintedTexts.{object_words, parent_words, predicate_part, action_part, fact_part}
+use Rattle.plan_texts.specs.PrintedTexts.{object_words, parent_words, predicate_part, action_part}
 use Rattle.plan_texts.proofs.Unique.{map-map}
 use Rattle.plan_model.specs.declared.terms.Term.TheVariants.{Obj}
 use Rattle.plan_model.specs.declared.terms.GroundAtom.{GroundAtom}
@@ -15,7 +15,7 @@ use Rattle.plan_model.specs.declared.types.Object.{Object}
 use Rattle.plan_model.specs.declared.types.Parent.{Parent}
 use Rattle.plan_model.specs.declared.values.Hddl.{Hddl}
 use Rattle.slot_encoding.proofs.encoded_texts.SaidParts.{bare, put, formula-put}
-use Rattle.hddl_texts.specs.PrintedHddl.{task_part, method_part, top_part, requirements, constants_of, others_of, hddl_domain_text, hddl_problem_text}
+use Rattle.hddl_texts.specs.PrintedHddl.{task_part, method_part, top_part, requirements, hddl_domain_text, hddl_problem_text}
 use Rattle.plan_proof.specs.Same.{AreSameButNames}
 use Rattle.pruned_answers.proofs.PrintedSaid.{put_predicate, put_task, put_action, put_method, put_top, predicate-put, task-put, action-put, method-put, top-put}
 

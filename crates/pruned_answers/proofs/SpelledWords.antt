@@ -6,7 +6,7 @@ use Rattle.plan_texts.specs.Declared.{named, words_with}
 use Rattle.plan_texts.specs.TypedLists.{EachTyped}
 use Rattle.plan_texts.specs.Types.{EachIs, TypeItem, IsSomeName, IsTypeItem, Mentions, IsPairSaid}
 use Rattle.plan_texts.specs.Schemas.{IsObject, IsAction}
-use Rattle.plan_texts.specs.SpellsHddl.{hddl_types, hddl_words, AreHddlSections, SpellsHddl}
+use Rattle.plan_texts.specs.SpellsHddl.{hddl_types, AreHddlSections, SpellsHddl}
 use Rattle.plan_texts.proofs.Members.{each-has}
 use Rattle.plan_texts.proofs.Places.{each-join}
 use Rattle.plan_model.specs.declared.types.Object.{Object}
