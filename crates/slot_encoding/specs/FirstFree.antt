@@ -1,12 +1,10 @@
 -- First-free slots: the printed problem with three parts more, so that a method takes the lowest free slots, in the order of their numbers.
 -- Source: this project's.
-use Rattle.std.specs.Prelude.{ℕ, zero, suc, ◌-◌, ◌+◌, ◌≡◌, ◌==◌, cond, List, [], ◌∷◌, ◌++◌, map, length, codes, Contains}
+use Rattle.std.specs.Prelude.{ℕ, zero, suc, ◌-◌, ◌+◌, ◌≡◌, List, [], ◌∷◌, ◌++◌, map, length, codes, Contains}
 use Rattle.plan_model.specs.declared.options.Slots.{Slots}
 use Rattle.plan_model.specs.declared.options.Slots.TheVariants.{Any, First}
 use Rattle.plan_model.specs.declared.options.Style.{Style}
-use Rattle.plan_model.specs.declared.terms.Term.{Term}
 use Rattle.plan_model.specs.declared.terms.Term.TheVariants.{Var}
-use Rattle.plan_model.specs.declared.terms.Param.{Param}
 use Rattle.plan_model.specs.declared.terms.GroundAtom.{GroundAtom}
 use Rattle.plan_model.specs.declared.formulas.Formula.{Formula}
 use Rattle.plan_model.specs.declared.formulas.Formula.TheVariants.{Holds, Equal, Not, And, Or, Imply, Forall}
@@ -45,7 +43,7 @@ module _ (c : Compiled) (names : List (List ℕ)) (b : ℕ) (style : Style) wher
   lowest_slot x (suc zero) = Forall (slot_param c names b (codes "htn_x") ∷ []) (Not (is_free_below x 1))
   lowest_slot x (suc (suc k)) =
       Forall (slot_param c names b (codes "htn_x") ∷ [])
-        (Imply (is_free_below x (suc (suc k))) (Or (map (λ j. Equal (Var x) (Var j)) (numbers 1 (suc k)))))
+      (Imply (is_free_below x (suc (suc k))) (Or (map (λ j. Equal (Var x) (Var j)) (numbers 1 (suc k)))))
 
   abbrev pub lowest_slots : (x count : ℕ) → List Formula
   lowest_slots x count = map (lowest_slot x) (numbers 1 count)

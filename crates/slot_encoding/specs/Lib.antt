@@ -2,9 +2,9 @@ pub mod SourceParts
 pub mod EncodedNames
 pub mod EncodedActions
 pub mod EncodedValue
-pub mod Printed
 pub mod EncodedWords
 pub mod FirstFree
+pub mod Printed
 pub mod Numberable
 pub mod Countable
 pub mod WordsDiffer

@@ -7,6 +7,8 @@ use Rattle.plan_texts.specs.Said.{said}
 use Rattle.plan_texts.specs.Alike.{object_said, predicate_said, action_said}
 use Rattle.slot_encoding.specs.EncodedValue.{IsEncoded}
 use Rattle.slot_encoding.specs.EncodedWords.{HasEncodedWords}
+use Rattle.slot_encoding.specs.FirstFree.{IsEncodedBy, HasWordsBy}
+use Rattle.plan_model.specs.declared.options.Slots.{Slots}
 use Rattle.plan_model.specs.declared.options.Style.{Style}
 use Rattle.plan_model.specs.declared.values.Compiled.{Compiled}
 use Rattle.plan_model.specs.declared.values.Pddl.{Pddl}
@@ -27,3 +29,8 @@ pub record SayTheSame (p q : Pddl) : Type 0 where
 pub record IsFullyEncoded (c : Compiled) (b : ℕ) (style : Style) (p : Pddl) : Type 0 where
   pub encoded : IsEncoded c b style p
   pub words : HasEncodedWords c b p.names
+
+-- the same by which free slots a method takes
+pub record IsFullyEncodedBy (rule : Slots) (c : Compiled) (b : ℕ) (style : Style) (p : Pddl) : Type 0 where
+  pub encoded : IsEncodedBy rule c b style p
+  pub words : HasWordsBy rule c b p.names
