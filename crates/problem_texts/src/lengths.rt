@@ -19,10 +19,16 @@ use std::alloc::Global;
 use text_forms::sheets::Ended;
 
 /// The lengths of the two texts with so many slots. Those with many slots are worked out from those with few.
-pub fn sizes(alloc: Global, c: &Compiled, slots: u32, style: &Style) -> Result<Sizes, Memory>
+pub fn sizes(
+    alloc: Global,
+    c: &Compiled,
+    slots: u32,
+    rule: &Slots,
+    style: &Style,
+) -> Result<Sizes, Memory>
     requires compiled { IsCompiledProblem c.now }
     requires listed { AreListed c.now.hddl.types }
-    ensures sized { IfOk result (AreSizesOf c.now slots style.now) }
+    ensures sized { IfOk result (AreSizesOf rule.now c.now slots style.now) }
 {
     if grows_evenly(c, slots, 2) {
         sizes_from_few(alloc, c, slots, style)

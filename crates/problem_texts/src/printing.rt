@@ -8,7 +8,7 @@ ghost use Rattle.problem_texts.specs.Pages.{AreTextsWithin, encoded_in};
 use crate::lengths::{grows_evenly, sizes_from_few};
 use crate::pages::Pages;
 use htn_base::{Memory, Text};
-use plan_model::{Compiled, Style};
+use plan_model::{Compiled, Slots, Style};
 use slot_encoder::Encoding;
 use std::alloc::Global;
 use text_forms::sheets::Ended;
@@ -51,12 +51,13 @@ pub fn texts_of(
     alloc: Global,
     c: &Compiled,
     slots: u32,
+    rule: &Slots,
     style: &Style,
     limit: u64,
 ) -> Result<Printed, Memory>
     requires compiled { IsCompiledProblem c.now }
     requires listed { AreListed c.now.hddl.types }
-    ensures printed { IfOk result (ArePrintedWithin c.now slots style.now limit) }
+    ensures printed { IfOk result (ArePrintedWithin rule.now c.now slots style.now limit) }
 {
     // With 32 times more slots than what the source writes the lengths take little of the time of printing.
     if grows_evenly(c, slots, 32) {
