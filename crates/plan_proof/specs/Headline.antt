@@ -29,50 +29,103 @@ IsExecutableOf domain problem steps = (p : Pddl) × SpellsPddl domain problem p 
 abbrev pub HaveExecutablesOf : (domain problem : List ℕ) → Pddl → Type 0
 HaveExecutablesOf domain problem p = (steps : List GroundAction) → IsExecutableOf domain problem steps ↔ IsExecutable p steps
 
-module _ (c : Compiled) (b : ℕ) where
+-- what a list of ground actions spells: a tree, an order of its nodes, and a slot for each
+abbrev pub SpellingForm : Type 1
+SpellingForm = (c : Compiled) → ℕ → List GroundAction → Tree (network c) → List Address → (Address → ℕ) → Type 0
+
+-- by one form of spelling
+module _ (Spelling : SpellingForm) (c : Compiled) (b : ℕ) where
   -- the list spells, with b slots, an executable front
-  abbrev pub SpellsExecutableFront : List GroundAction → Type 0
-  SpellsExecutableFront steps = (tree : Tree (network c)) × (order : List Address) × (slot : Address → ℕ) × IsSpelling c b steps tree order slot × IsExecutableFront c tree order
+  abbrev pub SpellsExecutableFrontBy : List GroundAction → Type 0
+  SpellsExecutableFrontBy steps = (tree : Tree (network c)) × (order : List Address) × (slot : Address → ℕ) × Spelling c b steps tree order slot × IsExecutableFront c tree order
 
   -- the list spells, with b slots, a schedule of a solution tree
-  abbrev pub SpellsSolution : List GroundAction → Type 0
-  SpellsSolution steps = (tree : Tree (network c)) × (order : List Address) × (slot : Address → ℕ) × IsSpelling c b steps tree order slot × IsSolution c tree order
+  abbrev pub SpellsSolutionBy : List GroundAction → Type 0
+  SpellsSolutionBy steps = (tree : Tree (network c)) × (order : List Address) × (slot : Address → ℕ) × Spelling c b steps tree order slot × IsSolution c tree order
 
   -- two spellings of one list: the same tree, the same schedule, and the same slot for each node
-  abbrev pub SpellsOne : List GroundAction → Type 0
-  SpellsOne steps = (tree tree' : Tree (network c)) (order order' : List Address) (slot slot' : Address → ℕ)
-      → IsSpelling c b steps tree order slot → IsSpelling c b steps tree' order' slot'
+  abbrev pub SpellsOneBy : List GroundAction → Type 0
+  SpellsOneBy steps = (tree tree' : Tree (network c)) (order order' : List Address) (slot slot' : Address → ℕ)
+      → Spelling c b steps tree order slot → Spelling c b steps tree' order' slot'
       → (tree' ≡ tree) × (order' ≡ order) × ((p : Address) → IsAddress (network c) tree p → slot' p ≡ slot p)
 
   -- what two printed texts are to the compiled problem
-  pub record IsFaithful (domain problem : List ℕ) : Type 0 where
-    pub executable : (steps : List GroundAction) → IsExecutableOf domain problem steps ↔ SpellsExecutableFront steps
-    pub plans : (steps : List GroundAction) → IsPlanOf domain problem steps ↔ SpellsSolution steps
-    pub only_one : (steps : List GroundAction) → SpellsOne steps
+  pub record IsFaithfulBy (domain problem : List ℕ) : Type 0 where
+    pub executable : (steps : List GroundAction) → IsExecutableOf domain problem steps ↔ SpellsExecutableFrontBy steps
+    pub plans : (steps : List GroundAction) → IsPlanOf domain problem steps ↔ SpellsSolutionBy steps
+    pub only_one : (steps : List GroundAction) → SpellsOneBy steps
     -- never more than b tasks are pending in what is spelled, and each schedule of which that is true is spelled
-    pub within : (steps : List GroundAction) (tree : Tree (network c)) (order : List Address) (slot : Address → ℕ) → IsSpelling c b steps tree order slot → IsWithin (network c) b tree order
+    pub within : (steps : List GroundAction) (tree : Tree (network c)) (order : List Address) (slot : Address → ℕ) → Spelling c b steps tree order slot → IsWithin (network c) b tree order
     pub spelled : (tree : Tree (network c)) (order : List Address) → IsFront (network c) (top_work c) tree order → IsWithin (network c) b tree order
-        → (steps : List GroundAction) × (slot : Address → ℕ) × IsSpelling c b steps tree order slot
+        → (steps : List GroundAction) × (slot : Address → ℕ) × Spelling c b steps tree order slot
 
   -- no schedule of any solution is lost
-  abbrev pub LosesNothing : List ℕ → List ℕ → Type 0
-  LosesNothing domain problem = (tree : Tree (network c)) (order : List Address) → IsSolution c tree order
-      → (steps : List GroundAction) × (slot : Address → ℕ) × IsSpelling c b steps tree order slot × IsPlanOf domain problem steps
+  abbrev pub LosesNothingBy : List ℕ → List ℕ → Type 0
+  LosesNothingBy domain problem = (tree : Tree (network c)) (order : List Address) → IsSolution c tree order
+      → (steps : List GroundAction) × (slot : Address → ℕ) × Spelling c b steps tree order slot × IsPlanOf domain problem steps
 
--- for each problem that the two HDDL texts spell: a list is a plan of the two printed PDDL texts exactly where it spells a schedule of a
--- solution tree with never more than b tasks pending
+  -- one list at most spells a tree and an order
+  abbrev pub EachHasOneSpelling : Type 0
+  EachHasOneSpelling = (tree : Tree (network c)) (order : List Address) (steps others : List GroundAction) (slot slot' : Address → ℕ)
+      → Spelling c b steps tree order slot → Spelling c b others tree order slot' → others ≡ steps
+
+  -- each schedule of a solution with never more than b tasks pending has exactly one plan
+  abbrev pub EachHasOnePlan : List ℕ → List ℕ → Type 0
+  EachHasOnePlan domain problem = (tree : Tree (network c)) (order : List Address) → IsSolution c tree order → IsWithin (network c) b tree order
+      → (steps : List GroundAction) × (slot : Address → ℕ) × Spelling c b steps tree order slot × IsPlanOf domain problem steps
+      × ((others : List GroundAction) (slot' : Address → ℕ) → Spelling c b others tree order slot' → others ≡ steps)
+
+module _ (Spelling : SpellingForm) where
+  -- for each problem that the two HDDL texts spell: a list is a plan of the two printed PDDL texts exactly where it spells a schedule of a
+  -- solution tree with never more than b tasks pending
+  abbrev pub HeadlineBy : (source_domain source_problem : List ℕ) (checks : Checks) (b : ℕ) (domain problem : List ℕ) → Type 0
+  HeadlineBy source_domain source_problem checks b domain problem = (h : Hddl) (c : Compiled)
+      → IsHddlOf source_domain source_problem h → IsCompiled h checks c → IsFaithfulBy Spelling c b domain problem
+
+  -- and at or above the bound of a tail-recursive problem no schedule of any solution is lost
+  abbrev pub HeadlineAtBoundBy : (source_domain source_problem : List ℕ) (checks : Checks) (b : ℕ) (domain problem : List ℕ) → Type 0
+  HeadlineAtBoundBy source_domain source_problem checks b domain problem = (h : Hddl) (c : Compiled) (n : ℕ)
+      → IsHddlOf source_domain source_problem h → IsCompiled h checks c → IsTailRecursive c → IsBound c n → n ≤ b → LosesNothingBy Spelling c b domain problem
+
+  -- and, where a form of spelling has one list for each schedule, each has one plan
+  abbrev pub OnePlanForEach : (source_domain source_problem : List ℕ) (checks : Checks) (b : ℕ) (domain problem : List ℕ) → Type 0
+  OnePlanForEach source_domain source_problem checks b domain problem = (h : Hddl) (c : Compiled)
+      → IsHddlOf source_domain source_problem h → IsCompiled h checks c → EachHasOnePlan Spelling c b domain problem
+
+  -- all three, of the two texts that are printed of a value
+  abbrev pub PrintedHeadlineBy : (source_domain source_problem : List ℕ) → Checks → ℕ → Pddl → Type 0
+  PrintedHeadlineBy source_domain source_problem checks b p = HeadlineBy source_domain source_problem checks b (domain_text p) (problem_text p)
+
+  abbrev pub PrintedHeadlineAtBoundBy : (source_domain source_problem : List ℕ) → Checks → ℕ → Pddl → Type 0
+  PrintedHeadlineAtBoundBy source_domain source_problem checks b p = HeadlineAtBoundBy source_domain source_problem checks b (domain_text p) (problem_text p)
+
+  abbrev pub PrintedOnePlanForEach : (source_domain source_problem : List ℕ) → Checks → ℕ → Pddl → Type 0
+  PrintedOnePlanForEach source_domain source_problem checks b p = OnePlanForEach source_domain source_problem checks b (domain_text p) (problem_text p)
+
+-- with any free slots
+abbrev pub SpellsExecutableFront : (c : Compiled) → ℕ → List GroundAction → Type 0
+SpellsExecutableFront = SpellsExecutableFrontBy IsSpelling
+
+abbrev pub SpellsSolution : (c : Compiled) → ℕ → List GroundAction → Type 0
+SpellsSolution = SpellsSolutionBy IsSpelling
+
+abbrev pub SpellsOne : (c : Compiled) → ℕ → List GroundAction → Type 0
+SpellsOne = SpellsOneBy IsSpelling
+
+abbrev pub IsFaithful : (c : Compiled) → ℕ → (domain problem : List ℕ) → Type 0
+IsFaithful = IsFaithfulBy IsSpelling
+
+abbrev pub LosesNothing : (c : Compiled) → ℕ → (domain problem : List ℕ) → Type 0
+LosesNothing = LosesNothingBy IsSpelling
+
 abbrev pub Headline : (source_domain source_problem : List ℕ) (checks : Checks) (b : ℕ) (domain problem : List ℕ) → Type 0
-Headline source_domain source_problem checks b domain problem = (h : Hddl) (c : Compiled)
-    → IsHddlOf source_domain source_problem h → IsCompiled h checks c → IsFaithful c b domain problem
+Headline = HeadlineBy IsSpelling
 
--- and at or above the bound of a tail-recursive problem no schedule of any solution is lost
 abbrev pub HeadlineAtBound : (source_domain source_problem : List ℕ) (checks : Checks) (b : ℕ) (domain problem : List ℕ) → Type 0
-HeadlineAtBound source_domain source_problem checks b domain problem = (h : Hddl) (c : Compiled) (n : ℕ)
-    → IsHddlOf source_domain source_problem h → IsCompiled h checks c → IsTailRecursive c → IsBound c n → n ≤ b → LosesNothing c b domain problem
+HeadlineAtBound = HeadlineAtBoundBy IsSpelling
 
--- both, of the two texts that are printed of a value
 abbrev pub PrintedHeadline : (source_domain source_problem : List ℕ) → Checks → ℕ → Pddl → Type 0
-PrintedHeadline source_domain source_problem checks b p = Headline source_domain source_problem checks b (domain_text p) (problem_text p)
+PrintedHeadline = PrintedHeadlineBy IsSpelling
 
 abbrev pub PrintedHeadlineAtBound : (source_domain source_problem : List ℕ) → Checks → ℕ → Pddl → Type 0
-PrintedHeadlineAtBound source_domain source_problem checks b p = HeadlineAtBound source_domain source_problem checks b (domain_text p) (problem_text p)
+PrintedHeadlineAtBound = PrintedHeadlineAtBoundBy IsSpelling

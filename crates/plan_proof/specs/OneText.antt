@@ -5,8 +5,10 @@ use Rattle.plan_texts.specs.FirstSeen.{IsHddlOf}
 use Rattle.plan_texts.specs.SoundValue.{IsSoundHddl}
 use Rattle.plan_texts.specs.PrintedTexts.{domain_text, problem_text}
 use Rattle.plan_model.specs.plan_meaning.Compilation.{IsCompiled}
-use Rattle.slot_encoding.specs.encoded_texts.FullyEncoded.{IsFullyEncoded}
+use Rattle.slot_encoding.specs.encoded_texts.FullyEncoded.{IsFullyEncodedBy}
 use Rattle.plan_model.specs.declared.options.Checks.{Checks}
+use Rattle.plan_model.specs.declared.options.Slots.{Slots}
+use Rattle.plan_model.specs.declared.options.Slots.TheVariants.{Any}
 use Rattle.plan_model.specs.declared.options.Style.{Style}
 use Rattle.plan_model.specs.declared.values.Hddl.{Hddl}
 use Rattle.plan_model.specs.declared.values.Compiled.{Compiled}
@@ -16,28 +18,41 @@ use Rattle.plan_model.specs.declared.values.Pddl.{Pddl}
 abbrev pub HasOneCompiled : Hddl → Checks → Type 0
 HasOneCompiled h mode = (c : Compiled) × IsCompiled h mode c × ((d : Compiled) → IsCompiled h mode d → d ≡ c)
 
--- The two printed texts of two source texts: of some sound value that they spell, with preconditions checked in this mode, b slots
--- and this style.
-pub record AreTextsFor (domain problem : List ℕ) (mode : Checks) (b : ℕ) (style : Style) (printed_domain printed_problem : List ℕ) : Type 0 where
+-- The two printed texts of two source texts: of some sound value that they spell, with preconditions checked in this mode, b slots,
+-- of which a method takes those of this choice, and this style.
+pub record AreTextsBy (choice : Slots) (domain problem : List ℕ) (mode : Checks) (b : ℕ) (style : Style) (printed_domain printed_problem : List ℕ) : Type 0 where
   pub read : Hddl
   pub spelled : IsHddlOf domain problem read
   pub sound : IsSoundHddl read
   pub compiled : Compiled
   pub is_compiled : IsCompiled read mode compiled
   pub value : Pddl
-  pub is_encoded : IsFullyEncoded compiled b style value
+  pub is_encoded : IsFullyEncodedBy choice compiled b style value
   pub domain_is : printed_domain ≡ domain_text value
   pub problem_is : printed_problem ≡ problem_text value
 
-module _ (domain problem : List ℕ) (mode : Checks) (b : ℕ) (style : Style) where
+module _ (choice : Slots) (domain problem : List ℕ) (mode : Checks) (b : ℕ) (style : Style) where
   -- some pair of texts is theirs
-  abbrev pub HaveTexts : Type 0
-  HaveTexts = (od op : List ℕ) × AreTextsFor domain problem mode b style od op
+  abbrev pub HaveTextsBy : Type 0
+  HaveTextsBy = (od op : List ℕ) × AreTextsBy choice domain problem mode b style od op
 
   -- one pair at most is theirs
-  abbrev pub HaveOnePairOfTexts : Type 0
-  HaveOnePairOfTexts = (od op od' op' : List ℕ) → AreTextsFor domain problem mode b style od op → AreTextsFor domain problem mode b style od' op' → (od ≡ od') × (op ≡ op')
+  abbrev pub HaveOnePairOfTextsBy : Type 0
+  HaveOnePairOfTextsBy = (od op od' op' : List ℕ) → AreTextsBy choice domain problem mode b style od op → AreTextsBy choice domain problem mode b style od' op' → (od ≡ od') × (op ≡ op')
 
   -- those that are printed for a value
-  abbrev pub PrintedAreTextsFor : Pddl → Type 0
-  PrintedAreTextsFor p = AreTextsFor domain problem mode b style (domain_text p) (problem_text p)
+  abbrev pub PrintedAreTextsBy : Pddl → Type 0
+  PrintedAreTextsBy p = AreTextsBy choice domain problem mode b style (domain_text p) (problem_text p)
+
+-- with any free slots
+abbrev pub AreTextsFor : (domain problem : List ℕ) → Checks → ℕ → Style → (printed_domain printed_problem : List ℕ) → Type 0
+AreTextsFor = AreTextsBy Any
+
+abbrev pub HaveTexts : (domain problem : List ℕ) → Checks → ℕ → Style → Type 0
+HaveTexts = HaveTextsBy Any
+
+abbrev pub HaveOnePairOfTexts : (domain problem : List ℕ) → Checks → ℕ → Style → Type 0
+HaveOnePairOfTexts = HaveOnePairOfTextsBy Any
+
+abbrev pub PrintedAreTextsFor : (domain problem : List ℕ) → Checks → ℕ → Style → Pddl → Type 0
+PrintedAreTextsFor = PrintedAreTextsBy Any

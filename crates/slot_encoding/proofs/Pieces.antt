@@ -27,7 +27,7 @@ use Rattle.plan_model.specs.plan_meaning.ClassicalPlan as Printed
 use Rattle.plan_model.specs.plan_meaning.ClassicalPlan.{HasWord, IsApplicable}
 use Rattle.plan_model.specs.plan_meaning.SpelledPlan.{object_word, step_of}
 use Rattle.slot_encoding.specs.SourceParts.{retyped, source_param, source_formula}
-use Rattle.slot_encoding.specs.EncodedNames.{slot_type, first_slot, guard_types, top_predicate, free_predicate, before_predicate, task_predicate, action_predicate, check_predicate, guard_predicate}
+use Rattle.slot_encoding.specs.EncodedNames.{slot_type, first_slot, first_guard, guard_types, top_predicate, free_predicate, before_predicate, task_predicate, action_predicate, check_predicate, guard_predicate}
 use Rattle.slot_encoding.specs.EncodedActions.{encoded_method, encoded_check, encoded_action, spare, source_condition, source_change}
 use Rattle.slot_encoding.specs.EncodedValue.{atom}
 
@@ -73,6 +73,7 @@ module _ (c : Compiled) where
     pub work_from_before : (w : Work) → IsNumbered w → work_predicate w ≢ before_predicate c
     pub guard_from_before : (ty : ℕ) → before_predicate c < guard_predicate c ty
     pub guard_from_work : (ty : ℕ) (w : Work) → IsNumbered w → work_predicate w < guard_predicate c ty
+    pub work_below_guards : (w : Work) → IsNumbered w → work_predicate w < first_guard c
     pub held_once : (x y : ℕ) (w v : Work) → IsNumbered w → IsNumbered v → held_atom x w ≡ held_atom y v → (x ≡ y) × (w ≡ v)
 
   -- A method's arguments are declared where its guards hold.

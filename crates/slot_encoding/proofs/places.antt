@@ -5,6 +5,7 @@ pub mod ListPlaces
 pub mod ObjectPlaces
 pub mod PrintedTypes
 pub mod SoundTypes
+pub mod WellWorded
 pub mod ObjectTypes
 -- The formulas on order pairs, and source formulas and effects.
 pub mod SourceFormulas

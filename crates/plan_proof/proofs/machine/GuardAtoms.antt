@@ -23,7 +23,7 @@ use Rattle.plan_model.specs.plan_meaning.Compilation.{once}
 use Rattle.slot_encoding.specs.EncodedNames.{guard_types, first_slot, first_guard, top_predicate, free_predicate, guard_predicate}
 use Rattle.slot_encoding.specs.EncodedValue.{same_atom, atom, first_atoms, AreGuardAtoms, IsInitial}
 use Rattle.plan_model.proofs.plan_meaning.Pairs.{once_to, map_to, append_to}
-use Rattle.slot_encoding.specs.Printed.{IsPrinted}
+use Rattle.slot_encoding.proofs.places.WellWorded.{IsWellWorded}
 use Rattle.slot_encoding.proofs.Pieces.{GuardAtomsAgree}
 use Rattle.slot_encoding.proofs.places.ListPlaces.{get_within}
 use Rattle.slot_encoding.proofs.places.ObjectTypes.{sound_here}
@@ -98,5 +98,5 @@ module _ (c : Compiled) (names : List (List ℕ)) (b : ℕ) (style : Style) wher
         from : InTypeOf c o ty → Contains init (atom (guard_predicate c ty) o)
         from i = subst (λ z. Contains z (atom (guard_predicate c ty) o)) (sym e) (Contains-append_right (first_atoms c names b style) guards (atom (guard_predicate c ty) o) (to_types (guard_types c) guards a ty o m i))
 
-pub guard_atoms_agree : (h : Hddl) (mode : Checks) (c : Compiled) (b : ℕ) (style : Style) (p : Pddl) → IsPrinted h mode c b style p → GuardAtomsAgree c b style p
+pub guard_atoms_agree : (h : Hddl) (mode : Checks) (c : Compiled) (b : ℕ) (style : Style) (p : Pddl) → IsWellWorded h mode c b style p → GuardAtomsAgree c b style p
 guard_atoms_agree h mode c b style p is = guard_atoms c p.names b style (sound_here h mode c b style p is) p.init is.encoded.init

@@ -22,7 +22,7 @@ use Rattle.plan_model.specs.plan_meaning.ClassicalPlan.{HasWord, AreObjects}
 use Rattle.plan_model.specs.plan_meaning.SpelledPlan.{object_by, object_word}
 use Rattle.slot_encoding.specs.SourceParts.{name, source_word}
 use Rattle.slot_encoding.specs.EncodedNames.{first_slot, encoded_objects}
-use Rattle.slot_encoding.specs.Printed.{IsPrinted}
+use Rattle.slot_encoding.proofs.places.WellWorded.{IsWellWorded}
 use Rattle.slot_encoding.proofs.Pieces.{IsSlot, slot_object, ObjectWords}
 use Rattle.slot_encoding.proofs.places.ListPlaces.{get_to_map, get_within, within_get}
 use Rattle.slot_encoding.proofs.places.ObjectPlaces.{printed_object, printed_slot, object_at, slot_at}
@@ -41,7 +41,7 @@ name_word names word e = go (number_of names word) refl e
 pub same_get : (ws : List Word) (j k : ℕ) (w : Word) → AreDifferent ws → slice_get ws j ≡ Some w → slice_get ws k ≡ Some w → j ≡ k
 same_get ws j k w d e f = same_place ws j k d (get_within ws j w e) (get_within ws k w f) (get-word ws j w e ∙ sym (get-word ws k w f))
 
-module _ (h : Hddl) (mode : Checks) (c : Compiled) (b : ℕ) (style : Style) (p : Pddl) (is : IsPrinted h mode c b style p) where
+module _ (h : Hddl) (mode : Checks) (c : Compiled) (b : ℕ) (style : Style) (p : Pddl) (is : IsWellWorded h mode c b style p) where
   abbrev words : List Word
   words = map (λ (x : Object). named p.names x.name) p.objects
 
@@ -52,7 +52,7 @@ module _ (h : Hddl) (mode : Checks) (c : Compiled) (b : ℕ) (style : Style) (p 
   -- an object named by a word has this word
   has_word : (o : ℕ) (x : Object) (w : Word) → slice_get p.objects o ≡ Some x → x.name ≡ name p.names w → HasWord p o w
   has_word o x w e f =
-      let plain : IsPlain (named p.names x.name) = each-at-some IsPlain words o (named p.names x.name) is.printable.words.objects (get_to_map (λ (x : Object). named p.names x.name) p.objects o x e) in
+      let plain : IsPlain (named p.names x.name) = each-at-some IsPlain words o (named p.names x.name) is.objects (get_to_map (λ (x : Object). named p.names x.name) p.objects o x e) in
       (x, e, subst (λ z. slice_get p.names z.number ≡ Some w) (sym f) (name_word p.names w (subst (λ z. is_name (named p.names z) ≡ true) f plain.1)))
 
   at : (o : ℕ) (x : Object) → slice_get (encoded_objects c p.names b) o ≡ Some x → slice_get p.objects o ≡ Some x
@@ -71,7 +71,7 @@ module _ (h : Hddl) (mode : Checks) (c : Compiled) (b : ℕ) (style : Style) (p 
       subst (λ z. HasWord p (first_slot c + z) (slot_word (suc k))) (sym e) (has_word (first_slot c + k) (printed_slot c p.names b (suc k)) (slot_word (suc k)) (at (first_slot c + k) (printed_slot c p.names b (suc k)) (slot_at c p.names b k l)) refl)
 
   one : (o o' : ℕ) (w : Word) → HasWord p o w → HasWord p o' w → o ≡ o'
-  one o o' w i j = same_get words o o' w is.printable.words.objects_differ (word_there o w i) (word_there o' w j)
+  one o o' w i j = same_get words o o' w is.objects_differ (word_there o w i) (word_there o' w j)
 
   one_word : (o : ℕ) (w w' : Word) → HasWord p o w → HasWord p o w' → w ≡ w'
   one_word o w w' i j = let e = word_there o w i in let f = word_there o w' j in cc

@@ -26,7 +26,7 @@ use Rattle.plan_model.specs.plan_meaning.Network as Source
 use Rattle.plan_model.specs.plan_meaning.ClassicalPlan as Printed
 use Rattle.plan_model.proofs.plan_meaning.TruthEquations.{truth-And}
 use Rattle.plan_model.proofs.plan_meaning.EffectEquations.{adds-And, deletes-And}
-use Rattle.slot_encoding.specs.Printed.{IsPrinted}
+use Rattle.slot_encoding.proofs.places.WellWorded.{IsWellWorded}
 use Rattle.slot_encoding.proofs.Pieces.{AreAgreed, IsSoundCondition, IsSoundChange, SourceMeaning, SourceAgrees}
 use Rattle.slot_encoding.proofs.places.ObjectTypes.{types_agree}
 use Rattle.slot_encoding.proofs.places.SourceFormulas.{truth-source}
@@ -80,7 +80,7 @@ module _ (InType : ℕ → ℕ → Type 0) (S : State) (values : List ℕ) where
   empty_deletes : (e : Effect) (g : GroundAtom) → is_empty_effect e ≡ true → Deletes InType S e values g → ⊥
   empty_deletes e g h a = subst (λ z. z values g) (deletes-And InType S []) (subst (λ z. Deletes InType S z values g) (empty_change e h) a)
 
-module _ (h : Hddl) (mode : Checks) (c : Compiled) (b : ℕ) (style : Style) (p : Pddl) (is : IsPrinted h mode c b style p) where
+module _ (h : Hddl) (mode : Checks) (c : Compiled) (b : ℕ) (style : Style) (p : Pddl) (is : IsWellWorded h mode c b style p) where
   abbrev words : Declared
   words = hddl_words c.hddl
 

@@ -24,7 +24,7 @@ use Rattle.slot_encoding.specs.SourceParts.{source_param}
 use Rattle.slot_encoding.specs.EncodedNames.{slot_type, first_slot, slot_param}
 use Rattle.slot_encoding.specs.EncodedActions.{spare, encoded_method, encoded_check, encoded_action}
 use Rattle.slot_encoding.specs.EncodedValue.{encoded_actions}
-use Rattle.slot_encoding.specs.Printed.{IsPrinted}
+use Rattle.slot_encoding.proofs.places.WellWorded.{IsWellWorded}
 use Rattle.slot_encoding.proofs.Pieces.{IsSlotObject, IsSlot, slot_object, IsActBy, StepsAreActs}
 use Rattle.slot_encoding.proofs.places.ListPlaces.{get_within, get_contains, contains_get, append_same}
 use Rattle.slot_encoding.proofs.places.Predicates.{is_checked, passed_once, passed_within}
@@ -33,7 +33,7 @@ use Rattle.plan_proof.proofs.machine.ObjectWords.{same_objects, same_words, join
 use Rattle.slot_encoding.proofs.places.ActionPlaces.{check_place, action_place, method_at, check_at, action_at, IsOfMethod, IsOfCheck, IsOfAction, action_cases}
 use Rattle.plan_proof.proofs.machine.ActionWords.{IsNamed, same_action, method_named, check_named, action_named, method_slots, length-slots, are_slots, work_slots}
 
-module _ (h : Hddl) (mode : Checks) (c : Compiled) (b : ℕ) (style : Style) (p : Pddl) (is : IsPrinted h mode c b style p) where
+module _ (h : Hddl) (mode : Checks) (c : Compiled) (b : ℕ) (style : Style) (p : Pddl) (is : IsWellWorded h mode c b style p) where
   abbrev slot : ℕ → ℕ
   slot = slot_object c b style p
 

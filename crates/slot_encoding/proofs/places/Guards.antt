@@ -23,7 +23,7 @@ use Rattle.plan_model.specs.plan_meaning.Compilation.{same_term, same_guard, che
 use Rattle.slot_encoding.specs.EncodedNames.{joined, guard_types}
 use Rattle.plan_model.proofs.plan_meaning.Pairs.{once_to, to_once, append_to}
 use Rattle.plan_model.proofs.plan_meaning.CompiledNetworks.{plan_of}
-use Rattle.slot_encoding.specs.Printed.{IsPrinted}
+use Rattle.slot_encoding.proofs.places.WellWorded.{IsWellWorded}
 use Rattle.slot_encoding.proofs.Pieces.{GuardsDeclare}
 use Rattle.slot_encoding.proofs.places.ObjectTypes.{sound_here}
 use Rattle.plan_model.specs.declared.options.Style.{Style}
@@ -203,8 +203,8 @@ guard_type c m plan k e n = to_once nat_eq tells (joined (map (λ (p : MethodPla
       | inr i ↦ Contains-append_right (map (λ (g : Guard). g.ty) p.guards) (joined (map (λ (p : MethodPlan). map (λ (g : Guard). g.ty) p.guards) plans)) k.ty (among plans i)
     ]
 
-pub compiled_here : (h : Hddl) (mode : Checks) (c : Compiled) (b : ℕ) (style : Style) (p : Pddl) → IsPrinted h mode c b style p → IsCompiled c.hddl mode c
+pub compiled_here : (h : Hddl) (mode : Checks) (c : Compiled) (b : ℕ) (style : Style) (p : Pddl) → IsWellWorded h mode c b style p → IsCompiled c.hddl mode c
 compiled_here h mode c b style p is = subst (λ z. IsCompiled z mode c) (sym is.compiled.hddl) is.compiled
 
-pub guards_agree : (h : Hddl) (mode : Checks) (c : Compiled) (b : ℕ) (style : Style) (p : Pddl) → IsPrinted h mode c b style p → GuardsDeclare c
+pub guards_agree : (h : Hddl) (mode : Checks) (c : Compiled) (b : ℕ) (style : Style) (p : Pddl) → IsWellWorded h mode c b style p → GuardsDeclare c
 guards_agree h mode c b style p is = guards_declare mode c (compiled_here h mode c b style p is) (sound_here h mode c b style p is)

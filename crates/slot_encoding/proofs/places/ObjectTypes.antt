@@ -16,7 +16,7 @@ use Rattle.slot_encoding.specs.SourceParts.{retyped, source_param}
 use Rattle.slot_encoding.specs.EncodedNames.{slot_type, first_slot, encoded_types, encoded_objects}
 use Rattle.plan_model.specs.plan_meaning.Network as Source
 use Rattle.plan_model.specs.plan_meaning.ClassicalPlan as Printed
-use Rattle.slot_encoding.specs.Printed.{IsPrinted}
+use Rattle.slot_encoding.proofs.places.WellWorded.{IsWellWorded}
 use Rattle.slot_encoding.proofs.Pieces.{TypesAgree, IsSlotObject, ListsAgree}
 use Rattle.slot_encoding.proofs.places.ObjectPlaces.{printed_object, printed_slot, object_cases, object_at, slot_at}
 use Rattle.slot_encoding.proofs.places.PrintedTypes.{part_to, part_from, slot_apart, apart_from_slots}
@@ -53,7 +53,7 @@ module _ (c : Compiled) (names : List (List ℕ)) (b : ℕ) (sound : IsSoundHddl
       let e : first_slot c + (o - first_slot c) ≡ o = omega arith in
       (printed_slot c names b (suc (o - first_slot c)), subst (λ z. slice_get (encoded_objects c names b) z ≡ Some (printed_slot c names b (suc (o - first_slot c)))) e (slot_at c names b (o - first_slot c) (omega arith)), inl (inr stay))
 
-module _ (h : Hddl) (mode : Checks) (c : Compiled) (b : ℕ) (style : Style) (p : Pddl) (is : IsPrinted h mode c b style p) where
+module _ (h : Hddl) (mode : Checks) (c : Compiled) (b : ℕ) (style : Style) (p : Pddl) (is : IsWellWorded h mode c b style p) where
   pub sound_here : IsSoundHddl c.hddl
   sound_here = subst IsSoundHddl (sym is.compiled.hddl) is.sound
 

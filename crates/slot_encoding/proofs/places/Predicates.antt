@@ -174,5 +174,6 @@ module _ (c : Compiled) where
     work_from_before = λ w n. from_middle w (before_predicate c) (in_range w n) (omega arith) (omega arith);
     guard_from_before = λ ty. omega arith;
     guard_from_work = λ ty w n. (let h = from_guard w (in_range w n) in omega arith);
+    work_below_guards = λ w n. from_guard w (in_range w n);
     held_once = held_once;
   }
