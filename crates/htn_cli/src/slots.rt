@@ -66,6 +66,7 @@ fn computed_slots<'a>(
     slots_in(comes_to(bound), rule)
 }
 
+#[tactic(auto, using(crate::proofs::Rules::few_by))]
 fn slots_in<'a>(bound: Bound, rule: Slots) -> Result<u32, Refusal<'a>>
     ensures slots { IfOk result (λ slots. (n : ℕ) → ComesTo n bound → AreSlots (most_slots_by rule) n slots) }
     ensures refused { IfErr result (λ refusal. (n : ℕ) →
