@@ -3,7 +3,7 @@
 //!
 //! A state of this problem reads as one of the problem with any free slots, and its further conditions as the rule of the lowest free
 //! slots over the machine of slots. So it stands on the proof of `plan_proof`, on the laws of rules of `schedules` and on the printed
-//! problem of `slot_encoding`; it has no code but laws. The contracts used above are said by the choice of slots: `headline_by`,
+//! problem of `slot_encoding`; it has no code but laws. The contracts used above are said by the rule for slots: `headline_by`,
 //! `headline_at_bound_by`, `one_pair_of_texts_by`, `some_pair_of_texts_by`, `printed_for_each_by`; and, of the lowest free slots alone,
 //! `each_schedule_has_one_plan`.
 #![tactic(auto)]

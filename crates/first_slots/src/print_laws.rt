@@ -1,6 +1,6 @@
-//! That what is printed is fixed, by the choice of slots: the contracts of functions that do nothing.
+//! That what is printed is fixed, by the rule for slots: the contracts of functions that do nothing.
 //!
-//! `choice` is which free slots a method takes, and `slots` the number of slots, whatever it is; style and mode of checks are those of
+//! `rule` is which free slots a method takes, and `slots` the number of slots, whatever it is; style and mode of checks are those of
 //! the words of a run.
 
 ghost use Rattle.plan_texts.specs.FirstSeen.{IsHddlOf};
@@ -12,17 +12,17 @@ ghost use Rattle.slot_encoding.specs.Printed.{IsPrintedBy};
 
 use plan_model::{Checks, Compiled, Hddl, Pddl, Slots, Style};
 
-/// Two source texts have one pair of printed texts at most, in each mode of checks, with each choice and number of slots and in
+/// Two source texts have one pair of printed texts at most, in each mode of checks, by each rule for slots, with each number of slots and in
 /// each style, whichever values they are read as, and whichever tables the printed values have.
 pub fn one_pair_of_texts_by(
     domain: &[u8],
     problem: &[u8],
     checks: &Checks,
-    choice: &Slots,
+    rule: &Slots,
     slots: u32,
     style: &Style,
 )
-    ensures { HaveOnePairOfTextsBy choice.now domain.now problem.now checks.now slots style.now }
+    ensures { HaveOnePairOfTextsBy rule.now domain.now problem.now checks.now slots style.now }
 {}
 
 /// The two texts of a printed value, over a table that has all its words, are such a pair.
@@ -32,15 +32,15 @@ pub fn printed_texts_are_the_pair_by(
     read: &Hddl,
     checks: &Checks,
     compiled: &Compiled,
-    choice: &Slots,
+    rule: &Slots,
     slots: u32,
     style: &Style,
     value: &Pddl,
 )
     requires spelled { IsHddlOf domain.now problem.now read.now }
-    requires printed { IsPrintedBy choice.now read.now checks.now compiled.now slots style.now value.now }
-    requires words { HasWordsBy choice.now compiled.now slots value.now.names }
-    ensures { PrintedAreTextsBy choice.now domain.now problem.now checks.now slots style.now value.now }
+    requires printed { IsPrintedBy rule.now read.now checks.now compiled.now slots style.now value.now }
+    requires words { HasWordsBy rule.now compiled.now slots value.now.names }
+    ensures { PrintedAreTextsBy rule.now domain.now problem.now checks.now slots style.now value.now }
 {}
 
 /// And they have one, if they spell a sound value whose networks have no cycle.
@@ -49,12 +49,12 @@ pub fn some_pair_of_texts_by(
     problem: &[u8],
     read: &Hddl,
     checks: &Checks,
-    choice: &Slots,
+    rule: &Slots,
     slots: u32,
     style: &Style,
 )
     requires spelled { IsHddlOf domain.now problem.now read.now }
     requires sound { IsSoundHddl read.now }
     requires ordered { AreOrdered read.now }
-    ensures { HaveTextsBy choice.now domain.now problem.now checks.now slots style.now }
+    ensures { HaveTextsBy rule.now domain.now problem.now checks.now slots style.now }
 {}

@@ -1,7 +1,7 @@
-//! The headline by the choice of slots, as the contracts of functions that do nothing.
+//! The headline by the rule for slots, as the contracts of functions that do nothing.
 //!
 //! `read` is a value of the two source texts, `compiled` is compiled of it, and `value` is its printed problem; its networks have no
-//! cycle. `choice` is which free slots a method takes, and `slots` the number of slots.
+//! cycle. `rule` is which free slots a method takes, and `slots` the number of slots.
 
 ghost use Rattle.plan_texts.specs.FirstSeen.{IsHddlOf};
 ghost use Rattle.plan_model.specs.plan_meaning.Compilation.{IsCompiled};
@@ -19,7 +19,7 @@ pub fn printed_for_each_by(
     read: &Hddl,
     checks: &Checks,
     compiled: &Compiled,
-    choice: &Slots,
+    rule: &Slots,
     slots: u32,
     style: &Style,
     value: &Pddl,
@@ -27,11 +27,11 @@ pub fn printed_for_each_by(
     other_compiled: &Compiled,
 )
     requires spelled { IsHddlOf domain.now problem.now read.now }
-    requires printed { IsPrintedBy choice.now read.now checks.now compiled.now slots style.now value.now }
+    requires printed { IsPrintedBy rule.now read.now checks.now compiled.now slots style.now value.now }
     requires ordered { AreOrdered read.now }
     requires other_spelled { IsHddlOf domain.now problem.now other.now }
     requires other_compiled { IsCompiled other.now checks.now other_compiled.now }
-    ensures printed { IsPrintedBy choice.now other.now checks.now other_compiled.now slots style.now value.now }
+    ensures printed { IsPrintedBy rule.now other.now checks.now other_compiled.now slots style.now value.now }
     ensures ordered { AreOrdered other.now }
 {}
 
@@ -42,15 +42,15 @@ pub fn headline_by(
     read: &Hddl,
     checks: &Checks,
     compiled: &Compiled,
-    choice: &Slots,
+    rule: &Slots,
     slots: u32,
     style: &Style,
     value: &Pddl,
 )
     requires spelled { IsHddlOf domain.now problem.now read.now }
-    requires printed { IsPrintedBy choice.now read.now checks.now compiled.now slots style.now value.now }
+    requires printed { IsPrintedBy rule.now read.now checks.now compiled.now slots style.now value.now }
     requires ordered { AreOrdered read.now }
-    ensures { PrintedHeadlineBy (SpellingBy choice.now) domain.now problem.now checks.now slots value.now }
+    ensures { PrintedHeadlineBy (SpellingBy rule.now) domain.now problem.now checks.now slots value.now }
 {}
 
 /// And where there are as many slots as the bound, or more, they lose no schedule of any solution.
@@ -60,15 +60,15 @@ pub fn headline_at_bound_by(
     read: &Hddl,
     checks: &Checks,
     compiled: &Compiled,
-    choice: &Slots,
+    rule: &Slots,
     slots: u32,
     style: &Style,
     value: &Pddl,
 )
     requires spelled { IsHddlOf domain.now problem.now read.now }
-    requires printed { IsPrintedBy choice.now read.now checks.now compiled.now slots style.now value.now }
+    requires printed { IsPrintedBy rule.now read.now checks.now compiled.now slots style.now value.now }
     requires ordered { AreOrdered read.now }
-    ensures { PrintedHeadlineAtBoundBy (SpellingBy choice.now) domain.now problem.now checks.now slots value.now }
+    ensures { PrintedHeadlineAtBoundBy (SpellingBy rule.now) domain.now problem.now checks.now slots value.now }
 {}
 
 /// With the lowest free slots each schedule of a solution that never has more tasks pending than there are slots has exactly one plan.

@@ -4,3 +4,4 @@ pub mod examples
 pub mod places
 pub mod words
 pub mod existence
+pub mod first_free

@@ -9,3 +9,5 @@ pub mod EncodedGuard
 pub mod EncodedConstraints
 pub mod EncodedUnion
 pub mod EncodedObjectGuard
+-- First-free slots.
+pub mod FirstFreeRow

@@ -13,4 +13,6 @@
 
 mod laws;
 
-pub use laws::{encoded_values_say_the_same, texts_are_what_is_said};
+pub use laws::{
+    encoded_values_say_the_same, encoded_values_say_the_same_by, texts_are_what_is_said,
+};

@@ -14,5 +14,5 @@ pub mod slot_declarations;
 mod value_laws;
 mod word_laws;
 
-pub use value_laws::every_problem_has_an_encoded_value;
-pub use word_laws::{encoded_is_printable, printed_words_differ};
+pub use value_laws::{every_problem_has_an_encoded_value, every_problem_has_an_encoded_value_by};
+pub use word_laws::{encoded_is_printable, encoded_is_printable_by, printed_words_differ};

@@ -27,6 +27,7 @@ use Rattle.plan_model.proofs.plan_meaning.examples.SmallestRow.{smallest, smalle
 use Rattle.plan_proof.specs.Headline.{IsFaithful, SpellsSolution}
 use Rattle.plan_proof.proofs.examples.SmallestPlan.{plan_row}
 use Rattle.slot_encoding.specs.Printed.{IsPrinted}
+use Rattle.plan_model.specs.plan_meaning.SpelledPlan.{IsSpelling}
 use Rattle.plan_proof.proofs.machine.PrintedMeans.{printed_faithful, faithful_texts}
 use Rattle.plan_proof.proofs.examples.RowPlans.{smallest_row}
 
@@ -68,7 +69,7 @@ smallest_is_printed mode = record { sound = (smallest_row mode).sound; compiled 
 pub smallest_is_faithful : (mode : Checks) → IsFaithful smallest 1 domain_bytes problem_bytes
 smallest_is_faithful mode =
     subst (λ z. IsFaithful smallest 1 z problem_bytes) domain_row (subst (IsFaithful smallest 1 _) problem_row
-    (faithful_texts smallest 1 printed smallest_printable (printed_faithful smallest_hddl mode smallest 1 Adl printed (smallest_row mode).ordered (smallest_is_printed mode))))
+    (faithful_texts IsSpelling smallest 1 printed smallest_printable (printed_faithful smallest_hddl mode smallest 1 Adl printed (smallest_row mode).ordered (smallest_is_printed mode))))
 
 -- its plan of three steps, of the two texts, is a schedule of a solution tree
 pub smallest_plan_spells : SpellsSolution smallest 1 steps

@@ -1,12 +1,12 @@
 -- Atoms of different kinds differ, and atoms of different slots.
-use Rattle.std.proofs.Common.{ℕ, suc, ◌≡◌, ◌↔◌, ◌-◌, ◌<◌, List, length, ap, arith}
+use Rattle.std.proofs.Common.{ℕ, suc, ◌≡◌, ◌↔◌, ◌-◌, ◌<◌, ◌≤◌, List, length, ap, arith}
 use Rattle.std.proofs.lemmas.Option.{slice_get_within}
 use Rattle.plan_model.specs.declared.options.Style.{Style}
 use Rattle.plan_model.specs.declared.terms.GroundAtom.{GroundAtom}
 use Rattle.plan_model.specs.declared.values.Compiled.{Compiled}
 use Rattle.plan_model.specs.declared.values.Pddl.{Pddl}
 use Rattle.plan_model.specs.plan_meaning.Network.{Work, action, check, task}
-use Rattle.slot_encoding.specs.EncodedNames.{free_predicate, before_predicate, guard_predicate, first_slot}
+use Rattle.slot_encoding.specs.EncodedNames.{free_predicate, before_predicate, guard_predicate, first_guard, first_slot}
 use Rattle.slot_encoding.specs.EncodedValue.{atom}
 use Rattle.slot_encoding.proofs.Pieces.{PredicatesDiffer, IsNumbered, slot_object, IsSlot, IsSlotObject}
 use Rattle.plan_proof.proofs.machine.Reading.{IsKnown, held, free_atom, before_atom}
@@ -59,6 +59,19 @@ module _ (c : Compiled) (b : ℕ) (style : Style) (p : Pddl) where
 
     pub source_guard : (ty : ℕ) → guard_predicate c ty < length c.hddl.predicates → ⊥
     source_guard ty l = let x = d.before in let y = d.guard_from_before ty in omega arith
+
+    -- what has the predicate of a guard, or a later one, and what hasn't
+    pub behind_held : (g : GroundAtom) (x : ℕ) (w : Work) → first_guard c ≤ g.predicate → IsKnown c w → g ≡ held c b style p x w → ⊥
+    behind_held g x w l k e = let f = ap (λ (g : GroundAtom). g.predicate) e in let m = d.work_below_guards w (known_numbered c w k) in omega arith
+
+    pub behind_free : (g : GroundAtom) (o : ℕ) → first_guard c ≤ g.predicate → g ≡ atom (free_predicate c) o → ⊥
+    behind_free g o l e = let f = ap (λ (g : GroundAtom). g.predicate) e in omega arith
+
+    pub behind_before : (g : GroundAtom) (os : List ℕ) → first_guard c ≤ g.predicate → g ≡ record { predicate = before_predicate c; args = os } → ⊥
+    behind_before g os l e = let f = ap (λ (g : GroundAtom). g.predicate) e in omega arith
+
+    pub behind_source : (g : GroundAtom) → first_guard c ≤ g.predicate → g.predicate < length c.hddl.predicates → ⊥
+    behind_source g l m = omega arith
 
     pub guard_held : (ty o x : ℕ) (w : Work) → IsKnown c w → atom (guard_predicate c ty) o ≡ held c b style p x w → ⊥
     guard_held ty o x w k e = let f = ap (λ (g : GroundAtom). g.predicate) e in let l = d.guard_from_work ty w (known_numbered c w k) in omega arith

@@ -1,5 +1,5 @@
 -- What is held goes, its slot is free, and the pairs that leave it are deleted.
-use Rattle.std.proofs.Common.{ℕ, ◌≡◌, ◌↔◌, ◌⊎◌, ◌<◌, inl, inr, [], ◌∷◌, length, refl, ap, sym, subst, ◌∙◌, Contains}
+use Rattle.std.proofs.Common.{ℕ, ◌≡◌, ◌↔◌, ◌⊎◌, ◌<◌, inl, inr, [], ◌∷◌, length, refl, ap, sym, subst, ◌∙◌, Contains, arith}
 use Rattle.plan_model.specs.declared.options.Style.{Style}
 use Rattle.plan_model.specs.declared.terms.GroundAtom.{GroundAtom}
 use Rattle.plan_model.specs.declared.values.Compiled.{Compiled}
@@ -11,8 +11,8 @@ use Rattle.plan_model.specs.plan_meaning.Network.{Work, network, InTypeOf}
 use Rattle.slot_encoding.specs.EncodedNames.{guard_types, guard_predicate}
 use Rattle.slot_encoding.specs.EncodedValue.{atom}
 use Rattle.slot_encoding.proofs.Pieces.{PredicatesDiffer, slot_object, IsSlot, IsSlotObject}
-use Rattle.plan_proof.proofs.machine.Reading.{IsKnown, held, free_atom, before_atom, pair, Reads}
-use Rattle.plan_proof.proofs.machine.Atoms.{slot_of, held_free, held_before, free_before, same_held, same_free, same_pair, source_held, source_free, source_before, guard_held, guard_free, guard_before, source_guard}
+use Rattle.plan_proof.proofs.machine.Reading.{IsKnown, held, free_atom, before_atom, pair, Reads, Keeps}
+use Rattle.plan_proof.proofs.machine.Atoms.{slot_of, held_free, held_before, free_before, same_held, same_free, same_pair, source_held, source_free, source_before, behind_held, behind_free, behind_before, behind_source}
 
 -- the state after, where the effect deletes D and adds A
 abbrev pub Changed : State → (D A : GroundAtom → Type 0) → State
@@ -102,16 +102,22 @@ module _ (c : Compiled) (b : ℕ) (style : Style) (p : Pddl) where
         from (inl (q, n)) = inl ((r.source g l).1 q, λ z. elim z [ inl e ↦ of_held e | inr (inl e) ↦ source_before c b style p d (subst (λ (z : GroundAtom). z.predicate < length c.hddl.predicates) e.2 l) | inr (inr e) ↦ n e ])
         from (inr a) = inr (inr a)
 
-    freed_guards : (ty o : ℕ) → Contains (guard_types c) ty → S' (atom (guard_predicate c ty) o) ↔ InTypeOf c o ty
-    freed_guards ty o k = (to, from)
+    -- what has the predicate of a guard, or a later one, stays
+    pub freed_keeps : Keeps c S S'
+    freed_keeps g l = (to, λ q. inl (q, goes))
       where
-        to : S' (atom (guard_predicate c ty) o) → InTypeOf c o ty
-        to (inl (q, n)) = (r.guards ty o k).0 q
-        to (inr (inl e)) = absurd (guard_free c b style p d ty o (slot_object c b style p h) e)
-        to (inr (inr a)) = absurd (source_guard c b style p d ty (source_A (atom (guard_predicate c ty) o) a))
+        goes : Goes g → ⊥
+        goes (inl e) = behind_held c b style p d g h w l known e
+        goes (inr (inl e)) = behind_before c b style p d g (slot_object c b style p h ∷ e.0 ∷ []) l e.2
+        goes (inr (inr e)) = behind_source c b style p d g l (source_D g e)
 
-        from : InTypeOf c o ty → S' (atom (guard_predicate c ty) o)
-        from i = inl ((r.guards ty o k).1 i, λ z. elim z [ inl e ↦ guard_held c b style p d ty o h w known e | inr (inl e) ↦ guard_before c b style p d ty o (slot_object c b style p h ∷ e.0 ∷ []) e.2 | inr (inr e) ↦ source_guard c b style p d ty (source_D (atom (guard_predicate c ty) o) e) ])
+        to : S' g → S g
+        to (inl (q, n)) = q
+        to (inr (inl e)) = absurd (behind_free c b style p d g (slot_object c b style p h) l e)
+        to (inr (inr a)) = absurd (behind_source c b style p d g l (source_A g a))
+
+    freed_guards : (ty o : ℕ) → Contains (guard_types c) ty → S' (atom (guard_predicate c ty) o) ↔ InTypeOf c o ty
+    freed_guards ty o k = let q = r.guards ty o k in let s = freed_keeps (atom (guard_predicate c ty) o) (omega arith) in (λ z. q.0 (s.0 z), λ z. s.1 (q.1 z))
 
     pub freed_reads : Reads c b style p S' freed (Changed T D A)
     freed_reads = record { holds = freed_holds; free = freed_free; before = freed_before; source = freed_source; guards = freed_guards }

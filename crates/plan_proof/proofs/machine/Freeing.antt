@@ -20,10 +20,10 @@ use Rattle.plan_model.proofs.plan_meaning.TruthEquations.{truth-And, truth-Holds
 use Rattle.plan_model.proofs.plan_meaning.EffectEquations.{adds-And, adds-Add, adds-Delete, deletes-And, deletes-Add, deletes-Delete}
 use Rattle.order_encoder.specs.OrderMeaning.{OrderMeaning}
 use Rattle.slot_encoding.proofs.Pieces.{PredicatesDiffer, slot_object, IsSlot, IsSlotObject}
-use Rattle.plan_proof.proofs.machine.Reading.{IsKnown, held, free_atom, before_atom, Reads}
+use Rattle.plan_proof.proofs.machine.Reading.{IsKnown, held, free_atom, before_atom, Reads, Keeps}
 use Rattle.slot_encoding.proofs.places.Sums.{each-append, one-append}
 use Rattle.plan_proof.proofs.machine.Atoms.{slot_of}
-use Rattle.plan_proof.proofs.machine.Freed.{Changed, freed, freed_reads, reads_alike}
+use Rattle.plan_proof.proofs.machine.Freed.{Changed, freed, freed_reads, freed_keeps, reads_alike}
 use Rattle.order_encoder.specs.OrderFormulas.{clear_parts}
 
 module _ (c : Compiled) (b : ℕ) (style : Style) (p : Pddl) where
@@ -135,6 +135,12 @@ module _ (c : Compiled) (b : ℕ) (style : Style) (p : Pddl) where
           from : after InT S (E.And (freeing c p.names b style a (length vs) ++ change)) vs g → F g
           from (inl (q, n)) = inl (q, λ z. elim z [ inl x ↦ n (de.1 (inl (x ∙ sym is))) | inr (inl x) ↦ n (de.1 (inr (inl x))) | inr (inr x) ↦ n (de.1 (inr (inr ((change_D g).1 x)))) ])
           from (inr x) = inr (elim (ad.0 x) [ inl y ↦ inl y | inr y ↦ inr ((change_A g).0 y) ])
+
+      pub freeing_keeps : Keeps c S (after InT S (E.And (freeing c p.names b style a (length vs) ++ change)) vs)
+      freeing_keeps g l =
+          let k = freed_keeps c b style p d S t T r h w known slot SD SA source_D source_A g l in
+          let s = same_after g in
+          (λ z. k.0 (s.1 z), λ z. s.0 (k.1 z))
 
       pub freeing_reads : Reads c b style p (after InT S (E.And (freeing c p.names b style a (length vs) ++ change)) vs) (freed c b style p d S t T r h w known slot SD SA source_D source_A) (Changed T SD SA)
       freeing_reads =

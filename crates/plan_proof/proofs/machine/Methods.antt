@@ -22,11 +22,11 @@ use Rattle.plan_model.specs.plan_meaning.Solution.{AllowsMethod}
 use Rattle.slot_encoding.specs.EncodedActions.{spare, depth, held_task, freeing, splitting, method_eff, encoded_method}
 use Rattle.plan_model.proofs.plan_meaning.EffectEquations.{adds-And, adds-Delete, deletes-And, deletes-Delete}
 use Rattle.slot_encoding.proofs.Pieces.{IsSlot, IsMethodAct}
-use Rattle.plan_proof.proofs.machine.Reading.{held, Reads, Applies}
+use Rattle.plan_proof.proofs.machine.Reading.{held, Reads, Keeps, Applies}
 use Rattle.slot_encoding.proofs.places.Sums.{one-append}
 use Rattle.plan_proof.proofs.machine.Facts.{PiecesMean}
 use Rattle.plan_proof.proofs.machine.Freed.{Changed, reads_alike}
-use Rattle.plan_proof.proofs.machine.Freeing.{InT, unblocked_iff, freeing_reads}
+use Rattle.plan_proof.proofs.machine.Freeing.{InT, unblocked_iff, freeing_reads, freeing_keeps}
 use Rattle.plan_proof.proofs.machine.Split as Split
 use Rattle.slot_encoding.proofs.places.Splitting.{frees, kids, links, copies_of, splitting_parts}
 use Rattle.plan_proof.proofs.machine.MethodConditions.{objects, depth_long, method_true}
@@ -55,14 +55,14 @@ module _ (c : Compiled) (b : ℕ) (style : Style) (p : Pddl) (means : PiecesMean
     -- what the two kinds of methods leave
     module _ (declared : (child : Child) → Contains plan.schema.children child → IsDeclared c (child_of g child)) (slot : IsSlot c b style p h) (holds : t.holds h (N.head g)) (alone : t.free h → ⊥) (free : (x : ℕ) → Contains new x → t.free x) where
       abbrev Left : Effect → Type 0
-      Left e = Reads c b style p (after (InT c b style p) S e xs) (Machine.after_act N t (apply h new g)) T
+      Left e = Reads c b style p (after (InT c b style p) S e xs) (Machine.after_act N t (apply h new g)) T × Keeps c S (after (InT c b style p) S e xs)
 
       abbrev freeing' : List Effect
       freeing' = freeing c p.names b style (held_task c p.names b style g.number plan) (depth c p.names b style g.number plan)
 
       no_children : count N g ≡ 0 → Left (E.And freeing')
       no_children z = subst (λ l. Left (E.And l)) (append-nil freeing') (subst (λ n. Left (E.And (freeing c p.names b style (held_task c p.names b style g.number plan) n ++ []))) (depth_long c b style p h new g plan long typed)
-          (reads_alike c b style p left left _ (Machine.after_act N t (apply h new g)) (Changed T (λ a. ⊥) (λ a. ⊥)) T (λ a. (λ q. q, λ q. q)) same (λ a. (λ q. elim q [ inl y ↦ y.0 | inr y ↦ absurd y ], λ q. inl (q, λ y. y))) reads))
+          (reads_alike c b style p left left _ (Machine.after_act N t (apply h new g)) (Changed T (λ a. ⊥) (λ a. ⊥)) T (λ a. (λ q. q, λ q. q)) same (λ a. (λ q. elim q [ inl y ↦ y.0 | inr y ↦ absurd y ], λ q. inl (q, λ y. y))) reads, keeps))
         where
           left : State
           left = after (InT c b style p) S (E.And (freeing c p.names b style (held_task c p.names b style g.number plan) (length xs) ++ [])) xs
@@ -76,6 +76,10 @@ module _ (c : Compiled) (b : ℕ) (style : Style) (p : Pddl) (means : PiecesMean
 
           reads : Reads c b style p left state (Changed T (λ a. ⊥) (λ a. ⊥))
           reads = freeing_reads c b style p S h _ (means.order S xs) t T means.differ r (N.head g) (known_head c means.fits g plan is) slot (held_task c p.names b style g.number plan) (head_ground c b style p h new g plan long typed means is) []
+              (λ a. ⊥) (λ a. ⊥) (λ a k. absurd k) (λ a k. absurd k) (λ a. (λ k. k, λ k. k)) (λ a. (λ k. k, λ k. k))
+
+          keeps : Keeps c S left
+          keeps = freeing_keeps c b style p S h _ (means.order S xs) t T means.differ r (N.head g) (known_head c means.fits g plan is) slot (held_task c p.names b style g.number plan) (head_ground c b style p h new g plan long typed means is) []
               (λ a. ⊥) (λ a. ⊥) (λ a k. absurd k) (λ a k. absurd k) (λ a. (λ k. k, λ k. k)) (λ a. (λ k. k, λ k. k))
 
           no_work : (i : ℕ) (w : Work) → slice_get (N.works g) i ≡ Some w → ⊥
@@ -103,10 +107,12 @@ module _ (c : Compiled) (b : ℕ) (style : Style) (p : Pddl) (means : PiecesMean
           }
 
       some_children : (hd : ℕ) → N.heir g ≡ Some hd → 0 < count N g → Left (E.And (splitting c p.names b style g.number plan))
-      some_children hd heir some =
-          reads_alike c b style p (Changed S Goes Comes) (after (InT c b style p) S (E.And (splitting c p.names b style g.number plan)) xs) (Machine.after_act N t (apply h new g)) (Machine.after_act N t (apply h new g)) T T
-          same (record { holds = λ x v. (λ k. k, λ k. k); free = λ x. (λ k. k, λ k. k); before = λ x y. (λ k. k, λ k. k) }) (λ a. (λ k. k, λ k. k))
-          (Split.split_reads c b style p means.differ S t T r h new g holds alone hd heir some (known_children c means.fits g plan is typed declared) free)
+      some_children hd heir some = (
+        reads_alike c b style p (Changed S Goes Comes) (after (InT c b style p) S (E.And (splitting c p.names b style g.number plan)) xs) (Machine.after_act N t (apply h new g)) (Machine.after_act N t (apply h new g)) T T
+            same (record { holds = λ x v. (λ k. k, λ k. k); free = λ x. (λ k. k, λ k. k); before = λ x y. (λ k. k, λ k. k) }) (λ a. (λ k. k, λ k. k))
+            (Split.split_reads c b style p means.differ S t T r h new g holds alone hd heir some (known_children c means.fits g plan is typed declared) free),
+        λ a l. (let k = Split.split_keeps c b style p means.differ S t T r h new g holds alone hd heir some (known_children c means.fits g plan is typed declared) free a l in let s = same a in (λ z. k.0 (s.1 z), λ z. s.0 (k.1 z))),
+      )
         where
           Goes : GroundAtom → Type 0
           Goes = Split.Goes c b style p means.differ S t T r h new g
@@ -229,7 +235,8 @@ module _ (c : Compiled) (b : ℕ) (style : Style) (p : Pddl) (means : PiecesMean
                 apart = asks.different;
               };
               allows = subst (λ o. AllowsMethod c T o g.values) (sym k.is) asks.tested;
-              reads = method_reads k.plan k.is k.count k.typed declared k.slot holds (λ f. apart h (N.head g) holds f) free;
+              reads = (method_reads k.plan k.is k.count k.typed declared k.slot holds (λ f. apart h (N.head g) holds f) free).0;
+              kept = (method_reads k.plan k.is k.count k.typed declared k.slot holds (λ f. apart h (N.head g) holds f) free).1;
             }
 
     pub method_from : MayApply N t h new g → AllowsMethod c T (slice_get c.methods g.number) g.values → (a : ActionSchema) × (os : List ℕ) × Applies c b style p S (apply h new g) a os

@@ -27,7 +27,6 @@ use Rattle.plan_proof.proofs.machine.Atoms.{slot_of}
 use Rattle.plan_proof.proofs.machine.Facts.{PiecesMean}
 use Rattle.plan_proof.proofs.machine.Freeing.{InT}
 use Rattle.plan_proof.proofs.machine.Runs.{leads_iff, reached_first}
-use Rattle.plan_proof.proofs.machine.Starts.{start_reads}
 use Rattle.slot_encoding.specs.EncodedValue.{atom}
 
 module _ (c : Compiled) (b : ℕ) (style : Style) (p : Pddl) (means : PiecesMean c b style p) (positive : 1 ≤ b) where
@@ -77,28 +76,30 @@ module _ (c : Compiled) (b : ℕ) (style : Style) (p : Pddl) (means : PiecesMean
   abbrev pub SpellSolution : List (Act N) → Type 0
   SpellSolution acts = (tree : Tree N) × (order : List Address) × (slot : Address → ℕ) × Spells N b (top_work c) acts tree order slot × IsSolution c tree order
 
-  pub acts_executable : (acts : List (Act N)) → LeadsBy c b style p (λ S. Unit {0}) (Contains p.init) acts ↔ SpellExecutable acts
-  acts_executable acts = (
-    λ k. (let (runs, allowed, u) = leads.0 k in let (tree, order, slot, s, e) = fronts.0 (runs, allowed) in (tree, order, slot, s, record { front = s.front; executable = e })),
-    λ k. (let (tree, order, slot, s, e) = k in let x = fronts.1 (tree, order, slot, s, e.executable) in leads.1 (x.0, x.1, tt)),
-  )
-    where
-      leads : LeadsBy c b style p (λ S. Unit {0}) (Contains p.init) acts ↔ (Machine.Runs N (start N b (top_work c)) acts × Executions.AreAllowed N State (Allows c) (next c) (initial c) (map (label_of N) acts) × Unit {0})
-      leads = leads_iff c b style p means positive (λ S. Unit {0}) (λ t T. Unit {0}) (λ S t T r. (λ k. k, λ k. k)) acts (Contains p.init) (start N b (top_work c)) (initial c) (start_reads c b style p means positive) (reached_first c b style p means positive)
+  -- from a state that reads as the first one
+  module _ (S : State) (reads : Reads c b style p S (start N b (top_work c)) (initial c)) where
+    pub acts_executable : (acts : List (Act N)) → LeadsBy c b style p (λ S. Unit {0}) S acts ↔ SpellExecutable acts
+    acts_executable acts = (
+      λ k. (let (runs, allowed, u) = leads.0 k in let (tree, order, slot, s, e) = fronts.0 (runs, allowed) in (tree, order, slot, s, record { front = s.front; executable = e })),
+      λ k. (let (tree, order, slot, s, e) = k in let x = fronts.1 (tree, order, slot, s, e.executable) in leads.1 (x.0, x.1, tt)),
+    )
+      where
+        leads : LeadsBy c b style p (λ S. Unit {0}) S acts ↔ (Machine.Runs N (start N b (top_work c)) acts × Executions.AreAllowed N State (Allows c) (next c) (initial c) (map (label_of N) acts) × Unit {0})
+        leads = leads_iff c b style p means positive (λ S. Unit {0}) (λ t T. Unit {0}) (λ S t T r. (λ k. k, λ k. k)) acts S (start N b (top_work c)) (initial c) reads (reached_first c b style p means positive)
 
-      fronts : IsExecutableRun N State (Allows c) (next c) (initial c) (IsGoal c) b (top_work c) acts ↔ ((tree : Tree N) × (order : List Address) × (slot : Address → ℕ) × Spells N b (top_work c) acts tree order slot × Executions.IsExecutableOrder N State (Allows c) (next c) (initial c) tree order)
-      fronts = runs_are_executable_fronts N means.lawful State (Allows c) (next c) (initial c) (IsGoal c) b (top_work c) acts positive
+        fronts : IsExecutableRun N State (Allows c) (next c) (initial c) (IsGoal c) b (top_work c) acts ↔ ((tree : Tree N) × (order : List Address) × (slot : Address → ℕ) × Spells N b (top_work c) acts tree order slot × Executions.IsExecutableOrder N State (Allows c) (next c) (initial c) tree order)
+        fronts = runs_are_executable_fronts N means.lawful State (Allows c) (next c) (initial c) (IsGoal c) b (top_work c) acts positive
 
-  pub acts_plans : (acts : List (Act N)) → LeadsBy c b style p (λ S. IsTrueIn (Printed.InTypeOf p) S p.goal []) (Contains p.init) acts ↔ SpellSolution acts
-  acts_plans acts = (
-    λ k. (let (runs, allowed, ends) = leads.0 k in plans.0 (record { run = (runs, allowed); free = ends.0; goal = ends.1 })),
-    λ k. (let x = plans.1 k in leads.1 (x.run.0, x.run.1, (x.free, x.goal))),
-  )
-    where
-      leads : LeadsBy c b style p (λ S. IsTrueIn (Printed.InTypeOf p) S p.goal []) (Contains p.init) acts
-          ↔ (Machine.Runs N (start N b (top_work c)) acts × Executions.AreAllowed N State (Allows c) (next c) (initial c) (map (label_of N) acts)
-          × (AllFree (Machine.end_of N (start N b (top_work c)) acts) × IsGoal c (Executions.last_state N State (Allows c) (next c) (initial c) (map (label_of N) acts))))
-      leads = leads_iff c b style p means positive (λ S. IsTrueIn (Printed.InTypeOf p) S p.goal []) (λ t T. AllFree t × IsGoal c T) goal_true acts (Contains p.init) (start N b (top_work c)) (initial c) (start_reads c b style p means positive) (reached_first c b style p means positive)
+    pub acts_plans : (acts : List (Act N)) → LeadsBy c b style p (λ S. IsTrueIn (Printed.InTypeOf p) S p.goal []) S acts ↔ SpellSolution acts
+    acts_plans acts = (
+      λ k. (let (runs, allowed, ends) = leads.0 k in plans.0 (record { run = (runs, allowed); free = ends.0; goal = ends.1 })),
+      λ k. (let x = plans.1 k in leads.1 (x.run.0, x.run.1, (x.free, x.goal))),
+    )
+      where
+        leads : LeadsBy c b style p (λ S. IsTrueIn (Printed.InTypeOf p) S p.goal []) S acts
+            ↔ (Machine.Runs N (start N b (top_work c)) acts × Executions.AreAllowed N State (Allows c) (next c) (initial c) (map (label_of N) acts)
+            × (AllFree (Machine.end_of N (start N b (top_work c)) acts) × IsGoal c (Executions.last_state N State (Allows c) (next c) (initial c) (map (label_of N) acts))))
+        leads = leads_iff c b style p means positive (λ S. IsTrueIn (Printed.InTypeOf p) S p.goal []) (λ t T. AllFree t × IsGoal c T) goal_true acts S (start N b (top_work c)) (initial c) reads (reached_first c b style p means positive)
 
-      plans : IsSolutionRun N State (Allows c) (next c) (initial c) (IsGoal c) b (top_work c) acts ↔ SpellSolution acts
-      plans = plans_are_spelled_solutions N means.lawful State (Allows c) (next c) (initial c) (IsGoal c) b (top_work c) acts positive
+        plans : IsSolutionRun N State (Allows c) (next c) (initial c) (IsGoal c) b (top_work c) acts ↔ SpellSolution acts
+        plans = plans_are_spelled_solutions N means.lawful State (Allows c) (next c) (initial c) (IsGoal c) b (top_work c) acts positive

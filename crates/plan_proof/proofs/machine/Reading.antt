@@ -12,7 +12,7 @@ use Rattle.slot_machine.specs.Machine as Machine
 use Rattle.plan_model.specs.plan_meaning.Truth.{State, AreTyped, IsTrueIn, after}
 use Rattle.plan_model.specs.plan_meaning.ClassicalPlan as Printed
 use Rattle.plan_model.specs.plan_meaning.Network.{Work, action, check, task, network, InTypeOf, IsDeclared}
-use Rattle.slot_encoding.specs.EncodedNames.{guard_types, free_predicate, before_predicate, guard_predicate}
+use Rattle.slot_encoding.specs.EncodedNames.{guard_types, first_guard, free_predicate, before_predicate, guard_predicate}
 use Rattle.slot_encoding.specs.EncodedValue.{atom}
 use Rattle.slot_encoding.proofs.Pieces.{AreAgreed, held_atom, slot_object, IsSlot, IsActBy}
 
@@ -21,6 +21,10 @@ abbrev pub IsKnown : Compiled → Work → Type 0
 IsKnown c (action a args) = IsDeclared c (action a args)
 IsKnown c (check m values) = (plan : MethodPlan) × (slice_get c.methods m ≡ Some plan) × IsTrue plan.checked × AreTyped (InTypeOf c) plan.schema.params values
 IsKnown c (task t args) = t ≤ length c.hddl.tasks
+
+-- what has the predicate of a guard, or a later one, is in the one as in the other
+abbrev pub Keeps : Compiled → State → State → Type 0
+Keeps c S S' = (g : GroundAtom) → first_guard c ≤ g.predicate → S' g ↔ S g
 
 module _ (c : Compiled) (b : ℕ) (style : Style) (p : Pddl) where
   -- slot x holds the work

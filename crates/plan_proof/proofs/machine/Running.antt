@@ -22,11 +22,11 @@ use Rattle.plan_model.specs.plan_meaning.Solution.{Allows, AllowsAction, AllowsC
 use Rattle.slot_encoding.specs.EncodedNames.{action_predicate, check_predicate}
 use Rattle.slot_encoding.specs.EncodedActions.{held_work, waiting, freeing, source_condition, source_change, encoded_action, encoded_check}
 use Rattle.slot_encoding.proofs.Pieces.{SourceMeaning, slot_object, IsSlot, IsActionAct, IsCheckAct}
-use Rattle.plan_proof.proofs.machine.Reading.{IsKnown, held, Reads, Applies}
+use Rattle.plan_proof.proofs.machine.Reading.{IsKnown, held, Reads, Keeps, Applies}
 use Rattle.slot_encoding.proofs.places.Sums.{own_vars}
 use Rattle.plan_proof.proofs.machine.Facts.{PiecesMean}
 use Rattle.plan_proof.proofs.machine.Freed.{Changed, reads_alike}
-use Rattle.plan_proof.proofs.machine.Freeing.{InT, WaitsForNone, unblocked_iff, front_true, freeing_reads}
+use Rattle.plan_proof.proofs.machine.Freeing.{InT, WaitsForNone, unblocked_iff, front_true, freeing_reads, freeing_keeps}
 use Rattle.std.specs.Prelude.{IsTrue}
 
 pub typed_long : (InType : ℕ → ℕ → Type 0) (ps : List Param) (os : List ℕ) → AreTyped InType ps os → length os ≡ length ps
@@ -44,6 +44,8 @@ module _ (c : Compiled) (b : ℕ) (style : Style) (p : Pddl) (m : PiecesMean c b
     pub may : May N t act
     pub allows : Allows c T (label_of N act)
     pub reads : Reads c b style p (after (InT c b style p) S a.eff os) (Machine.after_act N t act) (next c T (label_of N act))
+    -- the objects in the types of guards never change, nor does what has a later predicate
+    pub kept : Keeps c S (after (InT c b style p) S a.eff os)
 
   module _ (h : ℕ) (args : List ℕ) (predicate : ℕ) where
     abbrev vs : List ℕ
@@ -70,9 +72,12 @@ module _ (c : Compiled) (b : ℕ) (style : Style) (p : Pddl) (m : PiecesMean c b
     pub work_reads : (count : ℕ) (change : List Effect) (w : Work) → length args ≡ count → IsKnown c w → IsSlot c b style p h → held c b style p h w ≡ record { predicate = predicate; args = vs }
         → (D A : GroundAtom → Type 0) → ((g : GroundAtom) → D g → g.predicate < length c.hddl.predicates) → ((g : GroundAtom) → A g → g.predicate < length c.hddl.predicates)
         → ((g : GroundAtom) → OneTrue (λ e v. Deletes (InT c b style p) S e v g) change vs ↔ D g) → ((g : GroundAtom) → OneTrue (λ e v. Adds (InT c b style p) S e v g) change vs ↔ A g)
-        → Reads c b style p (after (InT c b style p) S (eff count change) vs) (Machine.after_act N t (run h w)) (Changed T D A)
-    work_reads count change w e known slot is D A sd sa cd ca = subst (λ n. Reads c b style p (after (InT c b style p) S (eff n change) vs) (Machine.after_act N t (run h w)) (Changed T D A)) e
-        (freeing_reads c b style p S h args (m.order S vs) t T m.differ r w known slot (hold (length args)) (hold_ground ∙ sym is) change D A sd sa cd ca)
+        → Reads c b style p (after (InT c b style p) S (eff count change) vs) (Machine.after_act N t (run h w)) (Changed T D A) × Keeps c S (after (InT c b style p) S (eff count change) vs)
+    work_reads count change w e known slot is D A sd sa cd ca =
+        subst (λ n. Reads c b style p (after (InT c b style p) S (eff n change) vs) (Machine.after_act N t (run h w)) (Changed T D A) × Keeps c S (after (InT c b style p) S (eff n change) vs)) e (
+          freeing_reads c b style p S h args (m.order S vs) t T m.differ r w known slot (hold (length args)) (hold_ground ∙ sym is) change D A sd sa cd ca,
+          freeing_keeps c b style p S h args (m.order S vs) t T m.differ r w known slot (hold (length args)) (hold_ground ∙ sym is) change D A sd sa cd ca,
+        )
 
   -- actions
   module _ (h n : ℕ) (args : List ℕ) where
@@ -94,14 +99,15 @@ module _ (c : Compiled) (b : ℕ) (style : Style) (p : Pddl) (m : PiecesMean c b
 
       action_taken : IsTrueIn (InT c b style p) S (encoded_action c p.names b style n s).pre xs → IsTaken (run h w) (encoded_action c p.names b style n s) xs
       action_taken tr =
-          let x = action_true.0 tr in record {
+          let x = action_true.0 tr in
+          let left = work_reads h args (action_predicate c n) (length s.params) (source_change c p.names b style 1 s.eff) w (typed_long (InTypeOf c) s.params args typed) known slot refl
+              (Deletes (InTypeOf c) T s.eff args) (Adds (InTypeOf c) T s.eff args)
+              (λ g z. means.deletes_source s.eff args g (m.fits.action_eff n s is) z) (λ g z. means.adds_source s.eff args g (m.fits.action_eff n s is) z)
+              (λ g. means.deletes s.eff args g (m.fits.action_eff n s is)) (λ g. means.adds s.eff args g (m.fits.action_eff n s is)) in record {
             may = record { holds = (r.holds h w).1 (known, slot, x.0); simple = tt; unblocked = (unblocked_iff c b style p S t T h r slot).1 x.1 };
             allows = subst (λ o. AllowsAction c T o args) (sym is) ((means.condition s.pre args (m.fits.action_pre n s is)).0 x.2);
-            reads = subst (λ o. Reads c b style p (after (InT c b style p) S (encoded_action c p.names b style n s).eff xs) (Machine.after_act N t (run h w)) (after_action c T o args)) (sym is)
-                (work_reads h args (action_predicate c n) (length s.params) (source_change c p.names b style 1 s.eff) w (typed_long (InTypeOf c) s.params args typed) known slot refl
-                (Deletes (InTypeOf c) T s.eff args) (Adds (InTypeOf c) T s.eff args)
-                (λ g z. means.deletes_source s.eff args g (m.fits.action_eff n s is) z) (λ g z. means.adds_source s.eff args g (m.fits.action_eff n s is) z)
-                (λ g. means.deletes s.eff args g (m.fits.action_eff n s is)) (λ g. means.adds s.eff args g (m.fits.action_eff n s is)));
+            reads = subst (λ o. Reads c b style p (after (InT c b style p) S (encoded_action c p.names b style n s).eff xs) (Machine.after_act N t (run h w)) (after_action c T o args)) (sym is) left.0;
+            kept = left.1;
           }
 
       action_applies : MayRun N t h w → AllowsAction c T (Some s) args → IsTrueIn (InT c b style p) S (encoded_action c p.names b style n s).pre xs
@@ -146,16 +152,17 @@ module _ (c : Compiled) (b : ℕ) (style : Style) (p : Pddl) (m : PiecesMean c b
 
       check_taken : IsTrueIn (InT c b style p) S (encoded_check c p.names b style n plan).pre ys → IsTaken (run h v) (encoded_check c p.names b style n plan) ys
       check_taken tr =
-          let x = check_true.0 tr in record {
+          let x = check_true.0 tr in
+          let left = work_reads h args (check_predicate c n) (length plan.schema.params) [] v (typed_long (InTypeOf c) plan.schema.params args typed) known_check slot refl
+              (λ g. ⊥) (λ g. ⊥) (λ g z. absurd z) (λ g z. absurd z) (λ g. (λ z. z, λ z. z)) (λ g. (λ z. z, λ z. z)) in record {
             may = record { holds = (r.holds h v).1 (known_check, slot, x.0); simple = tt; unblocked = (unblocked_iff c b style p S t T h r slot).1 x.1 };
             allows = subst (λ o. AllowsCheck c T o args) (sym is) ((says.condition plan.schema.pre args (m.fits.method_pre n plan is)).0 x.2);
             reads = reads_alike c b style p (after (InT c b style p) S (encoded_check c p.names b style n plan).eff ys) (after (InT c b style p) S (encoded_check c p.names b style n plan).eff ys)
                 (Machine.after_act N t (run h v)) (Machine.after_act N t (run h v)) (Changed T (λ g. ⊥) (λ g. ⊥)) T
                 (λ g. (λ z. z, λ z. z))
                 (record { holds = λ x u. (λ z. z, λ z. z); free = λ x. (λ z. z, λ z. z); before = λ x y. (λ z. z, λ z. z) })
-                none_changed
-                (work_reads h args (check_predicate c n) (length plan.schema.params) [] v (typed_long (InTypeOf c) plan.schema.params args typed) known_check slot refl
-                (λ g. ⊥) (λ g. ⊥) (λ g z. absurd z) (λ g z. absurd z) (λ g. (λ z. z, λ z. z)) (λ g. (λ z. z, λ z. z)));
+                none_changed left.0;
+            kept = left.1;
           }
 
       check_applies : MayRun N t h v → AllowsCheck c T (Some plan) args → IsTrueIn (InT c b style p) S (encoded_check c p.names b style n plan).pre ys

@@ -29,10 +29,10 @@ module _ (c : Compiled) (b : ℕ) (style : Style) (p : Pddl) (means : PiecesMean
   first = start N b (top_work c)
 
   -- the machine has come to t
-  abbrev IsReached : Machine.SlotState N → Type 1
+  abbrev pub IsReached : Machine.SlotState N → Type 1
   IsReached t = (taken : List (Act N)) × Runs N first taken × (end_of N first taken ≡ t)
 
-  reached_next : (t : Machine.SlotState N) (act : Act N) → IsReached t → May N t act → IsReached (Machine.after_act N t act)
+  pub reached_next : (t : Machine.SlotState N) (act : Act N) → IsReached t → May N t act → IsReached (Machine.after_act N t act)
   reached_next t act (taken, r, e) may = (taken ++ act ∷ [], runs_push N first taken act r (subst (λ z. May N z act) (sym e) may), end-push N first taken act ∙ ap (λ z. Machine.after_act N z act) e)
 
   -- no slot is held and free
@@ -47,7 +47,7 @@ module _ (c : Compiled) (b : ℕ) (style : Style) (p : Pddl) (means : PiecesMean
           ((m.free x).0 f).2 q (w, is) k
 
   module _ (S : State) (t : Machine.SlotState N) (T : State) (r : Reads c b style p S t T) (reached : IsReached t) where
-    act_to : (act : Act N) (a : ActionSchema) (os : List ℕ) → Applies c b style p S act a os → IsTaken c b style p means S t T r act a os
+    pub act_to : (act : Act N) (a : ActionSchema) (os : List ℕ) → Applies c b style p S act a os → IsTaken c b style p means S t T r act a os
     act_to (run h (action n args)) a os k = action_to c b style p means S t T r h n args a os k.0 k.1
     act_to (run h (check n values)) a os k = check_to c b style p means S t T r h n values a os k.0 k.1
     act_to (run h (task n args)) a os k = absurd k.0

@@ -15,9 +15,9 @@ use Rattle.plan_model.specs.plan_meaning.Network.{Work, GroundMethod, network}
 use Rattle.slot_encoding.specs.EncodedNames.{free_predicate, before_predicate, guard_predicate}
 use Rattle.slot_encoding.specs.EncodedValue.{atom}
 use Rattle.slot_encoding.proofs.Pieces.{PredicatesDiffer, slot_object, IsSlot}
-use Rattle.plan_proof.proofs.machine.Reading.{IsKnown, held, free_atom, pair, Reads}
+use Rattle.plan_proof.proofs.machine.Reading.{IsKnown, held, free_atom, pair, Reads, Keeps}
 use Rattle.slot_encoding.proofs.places.ListPlaces.{get_contains, contains_get}
-use Rattle.plan_proof.proofs.machine.Atoms.{one_slot, held_free, held_before, free_before, same_held, same_free, same_pair, source_held, source_free, source_before, guard_held, guard_free, guard_before}
+use Rattle.plan_proof.proofs.machine.Atoms.{one_slot, held_free, held_before, free_before, same_held, same_free, same_pair, source_held, source_free, source_before, behind_held, behind_free, behind_before}
 use Rattle.plan_proof.proofs.machine.Freed.{Changed}
 
 insert_keeps : (k h : ℕ) (hs : List ℕ) (x : ℕ) → Contains hs x → Contains (insert_at k h hs) x
@@ -157,6 +157,10 @@ module _ (c : Compiled) (b : ℕ) (style : Style) (p : Pddl) (d : PredicatesDiff
         to (inr (inr (inl (i, j, x, y, q, u, u', e)))) = absurd (not_pair (slot_object c b style p x ∷ slot_object c b style p y ∷ []) e)
         to (inr (inr (inr (i, x, y, q, u, k, f, e)))) = absurd (not_pair (slot_object c b style p x ∷ slot_object c b style p y ∷ []) e)
 
+    -- so does what has the predicate of a guard, or a later one
+    pub split_keeps : Keeps c S S'
+    split_keeps a l = stays a (λ x w k e. behind_held c b style p d a x w l k e) (λ o e. behind_free c b style p d a o l e) (λ os e. behind_before c b style p d a os l e)
+
     pub split_reads : Reads c b style p S' split T
     split_reads = record {
       holds = split_holds;
@@ -166,8 +170,5 @@ module _ (c : Compiled) (b : ℕ) (style : Style) (p : Pddl) (d : PredicatesDiff
           (λ x w known e. source_held c b style p d x w known (subst (λ (z : GroundAtom). z.predicate < length c.hddl.predicates) e l))
           (λ o e. source_free c b style p d (subst (λ (z : GroundAtom). z.predicate < length c.hddl.predicates) e l))
           (λ os e. source_before c b style p d (subst (λ (z : GroundAtom). z.predicate < length c.hddl.predicates) e l)) in (λ z. q.0 (k.0 z), λ z. k.1 (q.1 z)));
-      guards = λ ty o m. (let q = r.guards ty o m in let k = stays (atom (guard_predicate c ty) o)
-          (λ x w known e. guard_held c b style p d ty o x w known e)
-          (λ x e. guard_free c b style p d ty o x e)
-          (λ os e. guard_before c b style p d ty o os e) in (λ z. q.0 (k.0 z), λ z. k.1 (q.1 z)));
+      guards = λ ty o m. (let q = r.guards ty o m in let k = split_keeps (atom (guard_predicate c ty) o) (omega arith) in (λ z. q.0 (k.0 z), λ z. k.1 (q.1 z)));
     }

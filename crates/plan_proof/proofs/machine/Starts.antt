@@ -31,7 +31,7 @@ tells_atom g k = go (eqb_tells g.predicate k.predicate) (bytes_eq g.args k.args)
     go (inl a) true e = let f = bytes_eq-true g.args k.args e in inr (λ i. record { predicate = a.1 i; args = f i })
     go (inl a) false e = inl (ap (λ x. x && bytes_eq g.args k.args) a.0 ∙ e)
 
-Contains-mapped : {A B : Type 0} (f : A → B) (xs : List A) (x : A) → Contains xs x → Contains (map f xs) (f x)
+pub Contains-mapped : {A B : Type 0} (f : A → B) (xs : List A) (x : A) → Contains xs x → Contains (map f xs) (f x)
 Contains-mapped f [] x k = absurd (not-in_empty x k)
 Contains-mapped f (y ∷ xs) x k = elim (head_or_tail y xs x k) [ inl e ↦ (0, omega arith, ap f e) | inr d ↦ Contains-later (f y) (map f xs) (f x) (Contains-mapped f xs x d) ]
 
@@ -52,13 +52,13 @@ module _ (c : Compiled) (b : ℕ) (style : Style) (p : Pddl) (means : PiecesMean
   init_is = means.encoded.init
 
   -- the first atoms by their kinds
-  data Kind (g : GroundAtom) : Type 0 where
+  pub data Kind (g : GroundAtom) : Type 0 where
     is_top : g ≡ atom (top_predicate c) (first_slot c) → Kind g
     is_free : (k : ℕ) → 1 ≤ k → k < b → g ≡ atom (free_predicate c) (first_slot c + k) → Kind g
     is_source : Contains c.hddl.init g → Kind g
     is_guard : (ty o : ℕ) → g ≡ atom (guard_predicate c ty) o → Kind g
 
-  kind_of : (g : GroundAtom) → Contains p.init g → Kind g
+  pub kind_of : (g : GroundAtom) → Contains p.init g → Kind g
   kind_of g k = elim (Contains-append_cases (first_atoms c p.names b style) init_is.0 g (subst (λ l. Contains l g) init_is.2 k)) [
     | inl d ↦ of_first (head_or_tail (atom (top_predicate c) (first_slot c)) (frees ++ once same_atom c.hddl.init) g d)
     | inr d ↦ (let (ty, o, e) = guard_atom (guard_types c) init_is.0 g init_is.1 d in is_guard ty o e)

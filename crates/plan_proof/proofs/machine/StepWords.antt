@@ -194,19 +194,19 @@ module _ (h : Hddl) (mode : Checks) (c : Compiled) (b : ℕ) (style : Style) (p 
         elim (action_cases c p.names b style k a f) [ inl m ↦ of_method k f m | inr r ↦ elim r [ inl m ↦ of_check k f m | inr m ↦ of_action k f m ] ]
 
   -- the place of an act's action
-  abbrev place_of : Act (network c) → ℕ
+  abbrev pub place_of : Act (network c) → ℕ
   place_of (apply k new g) = g.number
   place_of (run k (check m values)) = check_place c p.names b style m
   place_of (run k (action n args)) = action_place c p.names b style n
   place_of (run k (task t args)) = 0
 
   -- an act's action, with its word, slots and objects
-  record Shows (act : Act (network c)) (a : ActionSchema) (os : List ℕ) : Type 0 where
-    named : IsNamed h mode c b style p is (place_of act) a (step_of c act).name
-    objects : AreObjects p os (step_of c act).args
-    typed : AreTyped (Printed.InTypeOf p) a.params os
+  pub record Shows (act : Act (network c)) (a : ActionSchema) (os : List ℕ) : Type 0 where
+    pub named : IsNamed h mode c b style p is (place_of act) a (step_of c act).name
+    pub objects : AreObjects p os (step_of c act).args
+    pub typed : AreTyped (Printed.InTypeOf p) a.params os
 
-  shown : (act : Act (network c)) (a : ActionSchema) (os : List ℕ) → IsBy act a os → Shows act a os
+  pub shown : (act : Act (network c)) (a : ActionSchema) (os : List ℕ) → IsBy act a os → Shows act a os
   shown (apply k new g) a os r =
       let m = g.number in
       let front = method_slots h mode c b style p is m r.plan in

@@ -20,6 +20,7 @@ use Rattle.plan_proof.proofs.machine.Reading.{LeadsBy}
 use Rattle.plan_proof.specs.Faithful.{SpellingsAreWithin, FrontsWithinAreSpelled, IsFaithfulValue}
 use Rattle.plan_proof.proofs.machine.Facts.{PiecesMean}
 use Rattle.plan_proof.proofs.machine.KnownActs.{AreActs, acts_are}
+use Rattle.plan_proof.proofs.machine.Starts.{start_reads}
 use Rattle.plan_proof.proofs.machine.Plans.{acts_executable, acts_plans}
 
 module _ (c : Compiled) (b : ℕ) (style : Style) (p : Pddl) (words : StepsAreActs c b style p) where
@@ -57,12 +58,12 @@ module _ (c : Compiled) (b : ℕ) (style : Style) (p : Pddl) (means : PiecesMean
       to : IsExecutable p steps → SpellsExecutableFront c b steps
       to k =
           let (acts, e, l) = to_acts c b style p words (λ S. Unit {0}) (Contains p.init) steps k in
-          let (tree, order, slot, s, x) = (acts_executable c b style p means positive acts).0 l in
+          let (tree, order, slot, s, x) = (acts_executable c b style p means positive (Contains p.init) (start_reads c b style p means positive) acts).0 l in
           (tree, order, slot, (acts, s, e), x)
 
       from : SpellsExecutableFront c b steps → IsExecutable p steps
       from (tree, order, slot, (acts, s, e), x) =
-          subst (IsExecutable p) (sym e) (from_acts c b style p words (λ S. Unit {0}) (Contains p.init) acts ((acts_executable c b style p means positive acts).1 (tree, order, slot, s, x)))
+          subst (IsExecutable p) (sym e) (from_acts c b style p words (λ S. Unit {0}) (Contains p.init) acts ((acts_executable c b style p means positive (Contains p.init) (start_reads c b style p means positive) acts).1 (tree, order, slot, s, x)))
 
   plans : (steps : List GroundAction) → IsPlan p steps ↔ SpellsSolution c b steps
   plans steps = (to, from)
@@ -70,12 +71,12 @@ module _ (c : Compiled) (b : ℕ) (style : Style) (p : Pddl) (means : PiecesMean
       to : IsPlan p steps → SpellsSolution c b steps
       to k =
           let (acts, e, l) = to_acts c b style p words (λ S. IsTrueIn (Printed.InTypeOf p) S p.goal []) (Contains p.init) steps k in
-          let (tree, order, slot, s, x) = (acts_plans c b style p means positive acts).0 l in
+          let (tree, order, slot, s, x) = (acts_plans c b style p means positive (Contains p.init) (start_reads c b style p means positive) acts).0 l in
           (tree, order, slot, (acts, s, e), x)
 
       from : SpellsSolution c b steps → IsPlan p steps
       from (tree, order, slot, (acts, s, e), x) =
-          subst (IsPlan p) (sym e) (from_acts c b style p words (λ S. IsTrueIn (Printed.InTypeOf p) S p.goal []) (Contains p.init) acts ((acts_plans c b style p means positive acts).1 (tree, order, slot, s, x)))
+          subst (IsPlan p) (sym e) (from_acts c b style p words (λ S. IsTrueIn (Printed.InTypeOf p) S p.goal []) (Contains p.init) acts ((acts_plans c b style p means positive (Contains p.init) (start_reads c b style p means positive) acts).1 (tree, order, slot, s, x)))
 
   only_one : (steps : List GroundAction) → SpellsOne c b steps
   only_one steps tree tree' order order' slot slot' (acts, s, e) (acts', s', e') =

@@ -14,11 +14,15 @@ use Rattle.plan_model.specs.plan_meaning.Laws.{AreOrdered}
 use Rattle.slot_encoding.specs.Printed.{IsPrinted}
 use Rattle.slot_encoding.specs.EncodedWords.{encoded_words, HasEncodedWords}
 use Rattle.slot_encoding.proofs.existence.Encoded.{has_encoded_value}
-use Rattle.slot_encoding.specs.encoded_texts.FullyEncoded.{IsFullyEncoded}
+use Rattle.slot_encoding.specs.encoded_texts.FullyEncoded.{IsFullyEncoded, IsFullyEncodedBy}
+use Rattle.plan_model.specs.declared.options.Slots.TheVariants.{Any}
 use Rattle.slot_encoding.proofs.encoded_texts.SameTexts.{encoded_texts-same, some_encoded}
 use Rattle.plan_proof.specs.OneText.{AreTextsFor, HaveTexts}
 use Rattle.plan_proof.proofs.values.Headlines.{same_but_names, unions_apart, encoded_by}
 use Rattle.plan_proof.proofs.one.SomeCompiled.{has_one_compiled}
+
+with_any : (c : Compiled) (b : ℕ) (style : Style) (p : Pddl) → IsFullyEncodedBy Any c b style p → IsFullyEncoded c b style p
+with_any c b style p e = record { encoded = e.encoded; words = e.words }
 
 -- two pairs of printed texts of one pair of source texts
 module _ (domain problem : List ℕ) (mode : Checks) (b : ℕ) (style : Style) (od op od' op' : List ℕ) (one : AreTextsFor domain problem mode b style od op) (other : AreTextsFor domain problem mode b style od' op') where
@@ -40,8 +44,8 @@ module _ (domain problem : List ℕ) (mode : Checks) (b : ℕ) (style : Style) (
   pub texts-same : (od ≡ od') × (op ≡ op')
   texts-same =
       let (p, e, f) = both in
-      let from = encoded_texts-same one.compiled b style one.value p one.is_encoded e in
-      let to = encoded_texts-same other.compiled b style p other.value f other.is_encoded in
+      let from = encoded_texts-same one.compiled b style one.value p (with_any one.compiled b style one.value one.is_encoded) e in
+      let to = encoded_texts-same other.compiled b style p other.value f (with_any other.compiled b style other.value other.is_encoded) in
       (one.domain_is ∙ from.0 ∙ to.0 ∙ sym other.domain_is, one.problem_is ∙ from.1 ∙ to.1 ∙ sym other.problem_is)
 
 -- what the run knows of the value that it prints makes its texts those of the source texts

@@ -25,6 +25,7 @@ use Rattle.plan_model.specs.task_networks.Order.{ArePairsOf, IsAcyclic}
 use Rattle.plan_model.specs.plan_meaning.Compilation.{AreMethodPlans, IsCompiled}
 use Rattle.plan_model.specs.Pairs.{Pairs}
 use Rattle.plan_model.specs.plan_meaning.Laws.{AreOrdered}
+use Rattle.plan_model.specs.plan_meaning.SpelledPlan.{IsSpelling}
 use Rattle.plan_proof.specs.Headline.{Headline, HeadlineAtBound}
 use Rattle.slot_encoding.specs.EncodedValue.{IsEncoded}
 use Rattle.slot_encoding.specs.Printed.{IsPrinted}
@@ -86,7 +87,7 @@ module _ (c d : Hddl) (same : AreSameButNames c d) where
   all_same : Together IsSame (c.top ∷ c.methods) (d.top ∷ d.methods)
   all_same = (same.alike.top, together-of_maps (method_said (hddl_words c)) (method_said (hddl_words d)) c.methods d.methods same.alike.methods)
 
-  ordered_too : AreOrdered d → AreOrdered c
+  pub ordered_too : AreOrdered d → AreOrdered c
   ordered_too o = λ s h. each-has IsOrdered (c.top ∷ c.methods) s (together-each IsSame IsOrdered IsOrdered one (c.top ∷ c.methods) (d.top ∷ d.methods) all_same (each-of IsOrdered (d.top ∷ d.methods) o)) (contains-has (c.top ∷ c.methods) s h)
     where
       one : (s t : MethodSchema) → IsSame s t → IsOrdered t → IsOrdered s
@@ -142,8 +143,8 @@ module _ (domain problem : List ℕ) (h : Hddl) (mode : Checks) (c : Compiled) (
   headline_of h' c' spelled' compiled' =
       let q = printed_too domain problem h h' mode c c' b style p spelled spelled' printed compiled' in
       let o = ordered_here domain problem h h' mode c c' b style p spelled spelled' printed compiled' ordered in
-      faithful_texts c' b p q.printable (printed_faithful h' mode c' b style p o q)
+      faithful_texts IsSpelling c' b p q.printable (printed_faithful h' mode c' b style p o q)
 
   pub headline_at_bound_of : HeadlineAtBound domain problem mode b (domain_text p) (problem_text p)
   headline_at_bound_of h' c' n spelled' compiled' tail bound enough =
-      loses_nothing h' mode c' compiled' n bound b (domain_text p) (problem_text p) enough (headline_of h' c' spelled' compiled')
+      loses_nothing h' mode c' compiled' n bound IsSpelling b (domain_text p) (problem_text p) enough (headline_of h' c' spelled' compiled')

@@ -29,7 +29,7 @@ use Rattle.plan_model.specs.task_networks.Spelling.{numbers}
 use Rattle.plan_model.specs.plan_meaning.Compilation.{once}
 use Rattle.slot_encoding.specs.SourceParts.{name, moved}
 use Rattle.order_encoder.specs.OrderFormulas.{pair_of, wait_parts, clear_parts, copy_parts}
-use Rattle.slot_encoding.specs.EncodedNames.{joined, guard_types, checked_methods, free_predicate, first_check, task_predicate, action_predicate, check_predicate, guard_predicate, slot_param, order_numbers}
+use Rattle.slot_encoding.specs.EncodedNames.{joined, guard_types, checked_methods, free_predicate, first_check, first_guard, task_predicate, action_predicate, check_predicate, guard_predicate, slot_param, order_numbers}
 use Rattle.slot_encoding.specs.EncodedActions.{slot_vars, differ, test, source_condition, source_change, held_work, work_action, encoded_action, encoded_check, spare, front, depth, children_slots, held_task, child_atom, child_atoms, constraints, guards, tested, method_pre, splitting, method_eff, method_word, encoded_method}
 use Rattle.slot_encoding.specs.EncodedValue.{encoded_methods, encoded_checks, encoded_source, encoded_actions}
 use Rattle.slot_encoding.proofs.places.Splitting.{frees, kids, links, copies_of, splitting_parts}
@@ -92,8 +92,11 @@ module _ (c d : Compiled) (same : AreSameButNames c.hddl d.hddl) (sc : IsSoundHd
         let h = together-length Alike _ _ (checked-both (take m c.methods) (take m d.methods) (together-take Alike m c.methods d.methods plans)) in
         λ i. first_check-same i + h i
 
+    pub first_guard-same : first_guard c ≡ first_guard d
+    first_guard-same = λ i. first_check-same i + checked-count i
+
     pub guard-same : (ty : ℕ) → guard_predicate c ty ≡ guard_predicate d ty
-    guard-same ty = λ i. first_check-same i + checked-count i + unwrap_or (position (λ u. u == ty) (guard_types-same i)) 0
+    guard-same ty = λ i. first_guard-same i + unwrap_or (position (λ u. u == ty) (guard_types-same i)) 0
 
     module _ (names : List (List ℕ)) (b : ℕ) (style : Style) where
       pub order-same : order_numbers c names b ≡ order_numbers d names b
@@ -141,13 +144,13 @@ module _ (c d : Compiled) (same : AreSameButNames c.hddl d.hddl) (sc : IsSoundHd
         e_count : length p.schema.children ≡ length q.schema.children
         e_count = maps-length (child_said v) (child_said w) p.schema.children q.schema.children (ap (λ z. z.4.1) a.0.schema)
 
-        e_spare : spare c names b style m p ≡ spare d names b style m q
+        pub e_spare : spare c names b style m p ≡ spare d names b style m q
         e_spare = λ i. e_count i - 1
 
         e_front : front c names b style m p ≡ front d names b style m q
         e_front = ap suc e_spare
 
-        e_depth : depth c names b style m p ≡ depth d names b style m q
+        pub e_depth : depth c names b style m p ≡ depth d names b style m q
         e_depth = let l = maps-length (typed v) (typed w) p.schema.params q.schema.params (ap (λ z. z.4.0) a.0.schema) in λ i. e_front i + l i
 
         e_slots : children_slots c names b style m p ≡ children_slots d names b style m q
@@ -183,7 +186,7 @@ module _ (c d : Compiled) (same : AreSameButNames c.hddl d.hddl) (sc : IsSoundHd
             let t = a.0.tested in
             λ i. cond (t i) (h i) []
 
-        e_pre : method_pre c names b style m p ≡ method_pre d names b style m q
+        pub e_pre : method_pre c names b style m p ≡ method_pre d names b style m q
         e_pre =
             let h = e_held in let o = order-same in let n = e_depth in let s = e_spare in let k = e_constraints in let g = e_guards in let t = e_tested in let f = free-same in
             λ i. Holds (h i) ∷ wait_parts (o i) b (n i) style (Var 0) ++ (map (λ u. Holds (record { predicate = f i; args = Var u ∷ [] })) (numbers 1 (s i)) ++ (differ (numbers 1 (s i)) ++ (k i ++ (g i ++ t i))))
@@ -215,7 +218,7 @@ module _ (c d : Compiled) (same : AreSameButNames c.hddl d.hddl) (sc : IsSoundHd
       e_word zero p q a = refl
       e_word (suc m) p q a = ap (λ z. codes "htn_m_" ++ escaped z.0) a.0.schema
 
-      method-printed : (m : ℕ) (p q : MethodPlan) → Alike p q → encoded_method c names b style m p ≡ encoded_method d names b style m q
+      pub method-printed : (m : ℕ) (p q : MethodPlan) → Alike p q → encoded_method c names b style m p ≡ encoded_method d names b style m q
       method-printed m p q a =
           let n = e_word m p q a in
           let s = e_spare m p q a in
@@ -235,7 +238,7 @@ module _ (c d : Compiled) (same : AreSameButNames c.hddl d.hddl) (sc : IsSoundHd
       methods-printed m (p ∷ ps) [] e = absurd e
       methods-printed m (p ∷ ps) (q ∷ qs) e = let f = method-printed m p q e.0 in let g = methods-printed (suc m) ps qs e.1 in λ i. f i ∷ g i
 
-      checks-printed : (m : ℕ) (ps qs : List MethodPlan) → Together Alike ps qs → encoded_checks c names b style m ps ≡ encoded_checks d names b style m qs
+      pub checks-printed : (m : ℕ) (ps qs : List MethodPlan) → Together Alike ps qs → encoded_checks c names b style m ps ≡ encoded_checks d names b style m qs
       checks-printed m [] [] e = refl
       checks-printed m [] (q ∷ qs) e = absurd e
       checks-printed m (p ∷ ps) [] e = absurd e
@@ -254,9 +257,12 @@ module _ (c d : Compiled) (same : AreSameButNames c.hddl d.hddl) (sc : IsSoundHd
           let g = source-printed (suc a) xs ys e.1 sp.1 sq.1 sf.1 sg.1 se.1 sh.1 in
           λ i. f i ∷ g i
 
+      pub sources-printed : encoded_source c names b style 0 c.hddl.actions ≡ encoded_source d names b style 0 d.hddl.actions
+      sources-printed = source-printed 0 c.hddl.actions d.hddl.actions (together-of_maps (action_said v) (action_said w) c.hddl.actions d.hddl.actions same.alike.actions) sc.action_params sd.action_params sc.pre sd.pre sc.eff sd.eff
+
       pub actions-same : encoded_actions c names b style ≡ encoded_actions d names b style
       actions-same =
           let f = methods-printed 0 c.methods d.methods plans in
           let g = checks-printed 0 c.methods d.methods plans in
-          let h = source-printed 0 c.hddl.actions d.hddl.actions (together-of_maps (action_said v) (action_said w) c.hddl.actions d.hddl.actions same.alike.actions) sc.action_params sd.action_params sc.pre sd.pre sc.eff sd.eff in
+          let h = sources-printed in
           λ i. f i ++ g i ++ h i

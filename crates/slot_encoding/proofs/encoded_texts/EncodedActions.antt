@@ -136,7 +136,7 @@ module _ (c : Compiled) (b : ℕ) (style : Style) (names names' : List Word) (ha
     tested-same = together-cond (SameFormula v w) plan.tested (source_condition c names b style (front c names b style m plan) plan.schema.pre) [] (source_condition c names' b style (front c names b style m plan) plan.schema.pre) []
         (condition-same (front c names b style m plan) plan.schema.pre (k.pre, k'.pre)) tt
 
-    pre-same : AreSame (method_pre c names b style m plan) (method_pre c names' b style m plan)
+    pub pre-same : Together (SameFormula (printed_words c names b) (printed_words c names' b)) (method_pre c names b style m plan) (method_pre c names' b style m plan)
     pre-same =
         let fs = map (λ u. Holds (is_free c names b style u)) (numbers 1 (spare c names b style m plan)) in
         let fs' = map (λ u. Holds (is_free c names' b style u)) (numbers 1 (spare c names' b style m plan)) in
@@ -197,7 +197,7 @@ module _ (c : Compiled) (b : ℕ) (style : Style) (names names' : List Word) (ha
     same_word zero = refl
     same_word (suc n) = refl
 
-    method-same : SameAction (encoded_method c names b style m plan) (encoded_method c names' b style m plan)
+    pub method-same : action_said (printed_words c names b) (encoded_method c names b style m plan) ≡ action_said (printed_words c names' b) (encoded_method c names' b style m plan)
     method-same =
         let u = method_word c names b style m plan m in
         let ns = numbers 1 (spare c names b style m plan) in
@@ -262,16 +262,25 @@ module _ (c : Compiled) (b : ℕ) (style : Style) (names names' : List Word) (ha
         sources-same (suc a) ss (each-right (Has names) (words_of_action s) rest k.0, each-right (Has names') (words_of_action s) rest k.1),
       )
 
+  -- what is known of the words of each method
+  methods_known : InBoth (method_words c 0 c.methods)
+  methods_known = (known_methods c b names has, known_methods c b names' has')
+
+  pub checks-together : Together (λ x y. action_said (printed_words c names b) x ≡ action_said (printed_words c names' b) y) (encoded_checks c names b style 0 c.methods) (encoded_checks c names' b style 0 c.methods)
+  checks-together = checks-same 0 c.methods (all_known 0 c.methods methods_known) (known_checks c b names has, known_checks c b names' has')
+
+  pub sources-together : Together (λ x y. action_said (printed_words c names b) x ≡ action_said (printed_words c names' b) y) (encoded_source c names b style 0 c.hddl.actions) (encoded_source c names' b style 0 c.hddl.actions)
+  sources-together = sources-same 0 c.hddl.actions (known_source_actions c b names has, known_source_actions c b names' has')
+
   pub actions-said : map (action_said (printed_words c names b)) (encoded_actions c names b style) ≡ map (action_said (printed_words c names' b)) (encoded_actions c names' b style)
   actions-said =
       let ms = encoded_methods c names b style 0 c.methods in let ms' = encoded_methods c names' b style 0 c.methods in
       let cs = encoded_checks c names b style 0 c.methods in let cs' = encoded_checks c names' b style 0 c.methods in
       let ss = encoded_source c names b style 0 c.hddl.actions in let ss' = encoded_source c names' b style 0 c.hddl.actions in
-      let km : InBoth (method_words c 0 c.methods) = (known_methods c b names has, known_methods c b names' has') in
       together-maps (action_said v) (action_said w) SameAction (λ x y e. e) (encoded_actions c names b style) (encoded_actions c names' b style)
       (together-join SameAction (ms ++ cs) ss (ms' ++ cs') ss'
-      (together-join SameAction ms cs ms' cs' (methods-same 0 c.methods km) (checks-same 0 c.methods (all_known 0 c.methods km) (known_checks c b names has, known_checks c b names' has')))
-      (sources-same 0 c.hddl.actions (known_source_actions c b names has, known_source_actions c b names' has')))
+      (together-join SameAction ms cs ms' cs' (methods-same 0 c.methods methods_known) checks-together)
+      sources-together)
 
   pub goal-said : said (printed_words c names b) (And (source_condition c names b style 0 c.hddl.goal ++ free_parts (order_numbers c names b) b 0 style (free_predicate c)))
       ≡ said (printed_words c names' b) (And (source_condition c names' b style 0 c.hddl.goal ++ free_parts (order_numbers c names' b) b 0 style (free_predicate c)))

@@ -63,7 +63,7 @@ module _ (c : Compiled) (b : ℕ) (names names' : List Word) (has : HasEncodedWo
   pub slot_h : typed v (slot_param c names b (codes "htn_h")) ≡ typed w (slot_param c names' b (codes "htn_h"))
   slot_h = param (codes "htn_h") 1 (known_variables c b names has).0 (known_variables c b names' has').0
 
-  slot_x : typed v (slot_param c names b (codes "htn_x")) ≡ typed w (slot_param c names' b (codes "htn_x"))
+  pub slot_x : typed v (slot_param c names b (codes "htn_x")) ≡ typed w (slot_param c names' b (codes "htn_x"))
   slot_x = param (codes "htn_x") 1 (known_variables c b names has).1.0 (known_variables c b names' has').1.0
 
   slot_a1 : typed v (record { name = name names (codes "htn_a1"); ty = 2 }) ≡ typed w (record { name = name names' (codes "htn_a1"); ty = 2 })

@@ -2,7 +2,7 @@
 use Rattle.std.proofs.Common.{◌≡◌, Bool, true, false, cond, inl, inr, List, [], ◌∷◌, ◌++◌, map, refl, ap, ap₂, sym, ◌∙◌}
 use Rattle.plan_texts.specs.Declared.{Declared}
 use Rattle.plan_texts.specs.Types.{Has}
-use Rattle.plan_texts.specs.Said.{typed, holds, equal, no, all, every, saids, said, adds, deletes, both, for_every, when, dones, done}
+use Rattle.plan_texts.specs.Said.{typed, holds, equal, no, all, any, imply, every, saids, said, adds, deletes, both, for_every, when, dones, done}
 use Rattle.plan_texts.specs.Together.{Together}
 use Rattle.plan_texts.proofs.Together.{together-maps}
 use Rattle.plan_texts.proofs.Readings.{said_roll}
@@ -12,7 +12,7 @@ use Rattle.plan_model.specs.declared.terms.Term.{Term}
 use Rattle.plan_model.specs.declared.terms.Param.{Param}
 use Rattle.plan_model.specs.declared.formulas.Formula.{Formula}
 use Rattle.plan_model.specs.declared.formulas.Formula.TheOpen.{Formula-F}
-use Rattle.plan_model.specs.declared.formulas.Formula.TheVariants.{Holds, Equal, Not, And, Forall, rolls-Holds, rolls-Equal, rolls-Not, rolls-And, rolls-Forall}
+use Rattle.plan_model.specs.declared.formulas.Formula.TheVariants.{Holds, Equal, Not, And, Or, Imply, Forall, rolls-Holds, rolls-Equal, rolls-Not, rolls-And, rolls-Or, rolls-Imply, rolls-Forall}
 use Rattle.plan_model.specs.declared.effects.Effect.{Effect}
 use Rattle.plan_model.specs.declared.effects.Effect.TheOpen.{Effect-F}
 use Rattle.plan_model.specs.declared.effects.Effect.TheVariants as E
@@ -45,6 +45,12 @@ module _ (v : Declared) where
 
   said-And : (fs : List Formula) → said v (And fs) ≡ all (saids (map (said v) fs))
   said-And fs = ap (said v) (sym (rolls-And fs)) ∙ said_roll v (Formula-F.And fs)
+
+  said-Or : (fs : List Formula) → said v (Or fs) ≡ any (saids (map (said v) fs))
+  said-Or fs = ap (said v) (sym (rolls-Or fs)) ∙ said_roll v (Formula-F.Or fs)
+
+  said-Imply : (f g : Formula) → said v (Imply f g) ≡ imply (said v f) (said v g)
+  said-Imply f g = ap (said v) (sym (rolls-Imply f g)) ∙ said_roll v (Formula-F.Imply f g)
 
   said-Forall : (xs : List Param) (f : Formula) → said v (Forall xs f) ≡ every (map (typed v) xs) (said v f)
   said-Forall xs f = ap (said v) (sym (rolls-Forall xs f)) ∙ said_roll v (Formula-F.Forall xs f)
@@ -88,6 +94,12 @@ module _ (v w : Declared) where
 
   pub same-And : (fs gs : List Formula) → Together SameFormula fs gs → said v (And fs) ≡ said w (And gs)
   same-And fs gs e = said-And v fs ∙ ap (λ z. all (saids z)) (together-maps (said v) (said w) SameFormula (λ x y h. h) fs gs e) ∙ sym (said-And w gs)
+
+  pub same-Or : (fs gs : List Formula) → Together SameFormula fs gs → said v (Or fs) ≡ said w (Or gs)
+  same-Or fs gs e = said-Or v fs ∙ ap (λ z. any (saids z)) (together-maps (said v) (said w) SameFormula (λ x y h. h) fs gs e) ∙ sym (said-Or w gs)
+
+  pub same-Imply : (f g h k : Formula) → said v f ≡ said w h → said v g ≡ said w k → said v (Imply f g) ≡ said w (Imply h k)
+  same-Imply f g h k d e = said-Imply v f g ∙ ap₂ imply d e ∙ sym (said-Imply w h k)
 
   pub same-Forall : (xs ys : List Param) (f g : Formula) → Together SameParam xs ys → said v f ≡ said w g → said v (Forall xs f) ≡ said w (Forall ys g)
   same-Forall xs ys f g p e = said-Forall v xs f ∙ ap₂ every (params-same xs ys p) e ∙ sym (said-Forall w ys g)

@@ -29,11 +29,11 @@ module _ (c : Compiled) (b : ℕ) (style : Style) where
       let r = guard_atoms-same names names' tys rest rest' more more' in
       e ∙ (λ i. map (atom (guard_predicate c ty)) (m i) ++ r i) ∙ sym e'
 
-  init-same : (names names' : List Word) (init init' : List GroundAtom) → IsInitial c names b style init → IsInitial c names' b style init' → init ≡ init'
+  pub init-same : (names names' : List Word) (init init' : List GroundAtom) → IsInitial c names b style init → IsInitial c names' b style init' → init ≡ init'
   init-same names names' init init' (guards, g, e) (guards', g', e') =
       e ∙ ap (λ z. first_atoms c names b style ++ z) (guard_atoms-same names names' (guard_types c) guards guards' g g') ∙ sym e'
 
-  over-same : (names names' : List Word) (init init' : List GroundAtom) → HasEncodedWords c b names → HasEncodedWords c b names' → init ≡ init' → SayTheSame (over c b style names init) (over c b style names' init')
+  pub over-same : (names names' : List Word) (init init' : List GroundAtom) → HasEncodedWords c b names → HasEncodedWords c b names' → init ≡ init' → SayTheSame (over c b style names init) (over c b style names' init')
   over-same names names' init init' has has' e = record {
     domains = word c b names names' has has' (own_word c c.hddl.domain) (known_domain c b names has) (known_domain c b names' has');
     problems = word c b names names' has has' (own_word c c.hddl.problem) (known_problem c b names has) (known_problem c b names' has');

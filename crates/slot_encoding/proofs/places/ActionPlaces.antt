@@ -27,7 +27,7 @@ module _ (c : Compiled) (names : List (List ℕ)) (b : ℕ) (style : Style) wher
     first : (f : ℕ → A → ActionSchema) (m : ℕ) (x : A) → f m x ≡ f (m + 0) x
     first f m x = let e : m ≡ m + 0 = omega arith in ap (λ z. f z x) e
 
-  length-methods : (m : ℕ) (plans : List MethodPlan) → length (encoded_methods c names b style m plans) ≡ length plans
+  pub length-methods : (m : ℕ) (plans : List MethodPlan) → length (encoded_methods c names b style m plans) ≡ length plans
   length-methods m [] = refl
   length-methods m (plan ∷ plans) = ap suc (length-methods (suc m) plans)
 

@@ -35,10 +35,10 @@ module _ (c : Compiled) (names : List Word) (b : ℕ) (style : Style) (sound : I
   abbrev Sound : ActionSchema → Type 0
   Sound = IsSoundAction (printed_words c names b) (printed_arities c names b)
 
-  plan_sound : (m : ℕ) (plan : MethodPlan) → slice_get c.methods m ≡ Some plan → IsSoundPlan c plan
+  pub plan_sound : (m : ℕ) (plan : MethodPlan) → slice_get c.methods m ≡ Some plan → IsSoundPlan c plan
   plan_sound m plan e = each-at-some (IsSoundPlan c) c.methods m plan (sound_plans c mode compiled sound) e
 
-  known : (m : ℕ) (plan : MethodPlan) → slice_get c.methods m ≡ Some plan → IsKnownMethod c names m plan
+  pub known : (m : ℕ) (plan : MethodPlan) → slice_get c.methods m ≡ Some plan → IsKnownMethod c names m plan
   known m plan e = let n : 0 + m ≡ m = omega arith in subst (λ z. IsKnownMethod c names z plan) n (known_method c names 0 c.methods m plan (known_methods c b names has) e)
 
   of_method : (a : ActionSchema) → IsOfMethod c names b style a → Sound a

@@ -26,6 +26,10 @@ each-part P f [] x e h = absurd h
 each-part P f (y ∷ xs) x e (inl h) = subst (λ z. EachIs P (f z)) h (each-left P (f y) (joined (map f xs)) e)
 each-part P f (y ∷ xs) x e (inr h) = each-part P f xs x (each-right P (f y) (joined (map f xs)) e) h
 
+pub each-joined : {X Y : Type 0} (P : Y → Type 0) (f : X → List Y) (xs : List X) → ((x : X) → Has xs x → EachIs P (f x)) → EachIs P (joined (map f xs))
+each-joined P f [] h = tt
+each-joined P f (x ∷ xs) h = each-join P (f x) (joined (map f xs)) (h x (inl refl)) (each-joined P f xs (λ y k. h y (inr k)))
+
 pub each-map : {X Y : Type 0} (P : Y → Type 0) (f : X → Y) (xs : List X) → ((x : X) → Has xs x → P (f x)) → EachIs P (map f xs)
 each-map P f [] h = tt
 each-map P f (x ∷ xs) h = (h x (inl refl), each-map P f xs (λ y k. h y (inr k)))

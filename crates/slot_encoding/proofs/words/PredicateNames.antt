@@ -176,6 +176,26 @@ module _ (c : Compiled) (names : List Word) (b : ℕ) (sound : IsSoundHddl c.hdd
       (each-map SoundParams (held_check c names b) (checked_methods c) (λ p m. sound_held (length p.schema.params) (known_check p m).1)))
       (each-map SoundParams (guarding c names b) (guard_types c) (λ ty m. (generated_param (codes "htn_a1") 2 known_a1 (refl, refl) (omega arith), tt)))
 
+  -- the predicate for lower slots is a single word, and none of the three
+  pub less_is_new : EachIs (λ w. codes "htn_less" ≡ w → ⊥) (map (λ (d : Predicate). named names d.name) (encoded_predicates c names b))
+  less_is_new =
+      subst (EachIs New) (sym predicates-named)
+      (each-join New (source_names ++ middle_names ++ action_names ++ check_names) guard_names
+      (each-join New (source_names ++ middle_names ++ action_names) check_names
+      (each-join New (source_names ++ middle_names) action_names
+      (each-join New source_names middle_names
+      (each-map New (λ (p : Predicate). own_word c p.name) c.hddl.predicates (λ p m. new (own_word c p.name) 0 (rank-escaped (named c.hddl.names p.name)) (λ l. omega arith)))
+      (apart _ _ refl, (apart _ _ refl, (apart _ _ refl, each-map New (λ (s : TaskSchema). codes "htn_t_" ++ own_word c s.name) c.hddl.tasks (λ s m. new (codes "htn_t_" ++ own_word c s.name) 2 refl (λ l. omega arith))))))
+      (each-map New (λ (s : ActionSchema). codes "htn_a_" ++ own_word c s.name) c.hddl.actions (λ s m. new (codes "htn_a_" ++ own_word c s.name) 3 refl (λ l. omega arith))))
+      (each-map New (λ (p : MethodPlan). codes "htn_c_" ++ own_word c p.schema.name) (checked_methods c) (λ p m. new (codes "htn_c_" ++ own_word c p.schema.name) 4 refl (λ l. omega arith))))
+      (each-map New (guard_word c [] 0) (guard_types c) (λ ty m. new (guard_word c [] 0 ty) 5 (guard_rank c ty) (λ l. omega arith))))
+    where
+      New : Word → Type 0
+      New w = codes "htn_less" ≡ w → ⊥
+
+      new : (w : Word) (r : ℕ) → rank w ≡ r → (1 ≡ r → ⊥) → codes "htn_less" ≡ w → ⊥
+      new w r e other f = other (ap rank f ∙ e)
+
   module _ (mode : Checks) (compiled : IsCompiled c.hddl mode c) (top_free : c.hddl.top.pre ≡ And []) where
     plain : EachIs IsPlain predicate_names
     plain =

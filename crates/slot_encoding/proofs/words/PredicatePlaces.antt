@@ -104,6 +104,9 @@ module _ (c : Compiled) (names : List Word) (b : ℕ) where
   length-checks : long (first_group ++ task_group ++ action_group ++ check_group) ≡ first_guard c
   length-checks = let a = length-actions in let d = length-joined (first_group ++ task_group ++ action_group) check_group in let e = length-map held_check (checked_methods c) in omega arith
 
+  pub length-predicates : length (encoded_predicates c names b) ≡ first_guard c + length (guard_types c)
+  length-predicates = let a = length-checks in let d = length-joined (first_group ++ task_group ++ action_group ++ check_group) guard_group in let e = length-map guarding (guard_types c) in omega arith
+
   from_tasks : (k : ℕ) (d : Predicate) → slice_get (first_group ++ task_group) k ≡ Some d → slice_get all k ≡ Some d
   from_tasks k d e = get_left (first_group ++ task_group ++ action_group ++ check_group) guard_group k d (get_left (first_group ++ task_group ++ action_group) check_group k d (get_left (first_group ++ task_group) action_group k d e))
 

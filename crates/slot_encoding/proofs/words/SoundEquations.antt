@@ -11,7 +11,7 @@ use Rattle.plan_model.specs.declared.terms.Param.{Param}
 use Rattle.plan_model.specs.declared.terms.Atom.{Atom}
 use Rattle.plan_model.specs.declared.formulas.Formula.{Formula, roll-Formula}
 use Rattle.plan_model.specs.declared.formulas.Formula.TheOpen.{Formula-F}
-use Rattle.plan_model.specs.declared.formulas.Formula.TheVariants.{Holds, Equal, Not, And, Forall, rolls-Holds, rolls-Equal, rolls-Not, rolls-And, rolls-Forall}
+use Rattle.plan_model.specs.declared.formulas.Formula.TheVariants.{Holds, Equal, Not, And, Or, Imply, Forall, rolls-Holds, rolls-Equal, rolls-Not, rolls-And, rolls-Or, rolls-Imply, rolls-Forall}
 use Rattle.plan_model.specs.declared.effects.Effect.{Effect, roll-Effect}
 use Rattle.plan_model.specs.declared.effects.Effect.TheOpen.{Effect-F}
 use Rattle.plan_model.specs.declared.effects.Effect.TheVariants.{Add, Delete, When, And as Both, Forall as Each_one, rolls-Add, rolls-Delete, rolls-When, rolls-And as rolls-Both, rolls-Forall as rolls-Each_one}
@@ -34,6 +34,15 @@ module _ (v : Declared) (ar : List ℕ) (scope : List Word) where
 
   pub sound-And : (fs : List Formula) → EachIs (λ f. IsSound v ar f scope) fs → IsSound v ar (And fs) scope
   sound-And fs s = of_layer (And fs) (Formula-F.And fs) (rolls-And fs) s
+
+  pub and-parts : (fs : List Formula) → IsSound v ar (And fs) scope → EachIs (λ f. IsSound v ar f scope) fs
+  and-parts fs s = subst (λ (z : List Word → Type 0). z scope) (sound_roll v ar (Formula-F.And fs)) (subst (λ g. IsSound v ar g scope) (sym (rolls-And fs)) s)
+
+  pub sound-Or : (fs : List Formula) → EachIs (λ f. IsSound v ar f scope) fs → IsSound v ar (Or fs) scope
+  sound-Or fs s = of_layer (Or fs) (Formula-F.Or fs) (rolls-Or fs) s
+
+  pub sound-Imply : (f g : Formula) → IsSound v ar f scope → IsSound v ar g scope → IsSound v ar (Imply f g) scope
+  sound-Imply f g s t = of_layer (Imply f g) (Formula-F.Imply f g) (rolls-Imply f g) (s, t)
 
   pub sound-Forall : (xs : List Param) (f : Formula) → AreSoundParams v ar xs → IsSound v ar f (scope ++ map (variable v) xs) → IsSound v ar (Forall xs f) scope
   sound-Forall xs f p s = of_layer (Forall xs f) (Formula-F.Forall xs f) (rolls-Forall xs f) (p, s)
