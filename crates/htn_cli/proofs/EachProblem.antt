@@ -23,7 +23,7 @@ use Rattle.plan_proof.specs.OneGraph.{HaveOneGraph}
 use Rattle.plan_proof.proofs.one.OneGraph.{one_graph}
 use Rattle.plan_proof.proofs.values.Headlines.{headline_of}
 use Rattle.first_slots.specs.LowestSpelling.{SpellingBy}
-use Rattle.first_slots.proofs.Headlines.{printed_by_choice, headline_choice}
+use Rattle.first_slots.proofs.Headlines.{printed_by-rule, headline_by-rule}
 use Rattle.bound_calc.specs.NoBound.{spaced}
 use Rattle.ground_bound.specs.NoGroundBound.{most_reached, IsAtMost}
 use Rattle.ground_answers.specs.GroundLaws.{AreGroundAlike, ValuesHaveOneGroundBound}
@@ -90,8 +90,8 @@ module _ (d p : List ℕ) (checks : Checks) (c : Compiled) (source : SpellProble
   pub faithful_of_each : (rule : Slots) (slots : ℕ) (style : Style) (value : Pddl) (h : Hddl) (k : Compiled) → IsHddlOf d p h → IsPrintedBy rule h checks k slots style value
       → HeadlineBy (SpellingBy rule) d p checks slots (domain_text value) (problem_text value)
   faithful_of_each rule slots style value h k s printed =
-      let here = printed_by_choice d p h source.value checks k c slots style value s source.read.spelled source.compiled_is rule printed in
-      headline_choice d p source.value checks c slots style value source.read.spelled source.read.ordered rule here
+      let here = printed_by-rule d p h source.value checks k c slots style value s source.read.spelled source.compiled_is rule printed in
+      headline_by-rule d p source.value checks c slots style value source.read.spelled source.read.ordered rule here
 
   -- and some texts are printed
   module _ (slots : ℕ) (some : 1 ≤ slots) (few : slots ≤ most_slots) where

@@ -22,7 +22,7 @@ use Rattle.plan_model.specs.declared.causes.FailWhy.{FailWhy}
 use Rattle.plan_proof.specs.Headline.{HeadlineBy, HeadlineAtBoundBy, OnePlanForEach, IsFaithfulBy, LosesNothingBy}
 use Rattle.plan_proof.proofs.texts.SamePlans.{spelled-plans}
 use Rattle.first_slots.specs.LowestSpelling.{SpellingBy}
-use Rattle.first_slots.proofs.Headlines.{headline_choice, at_bound_choice}
+use Rattle.first_slots.proofs.Headlines.{headline_by-rule, at_bound_by-rule}
 use Rattle.decode_answers.specs.DecodeLaws.{ValuesAreDecodedAlike}
 use Rattle.encode_answers.specs.EncodeLaws.{ValuesAreEncodedAlike}
 use Rattle.made_transport.specs.Made.{made_domain}
@@ -109,12 +109,12 @@ module _ (ground : ValuesHaveOneGroundBound) (request : TranslationRequest) (d p
     headline_here : HeadlineBy (SpellingBy request.rule) d p request.checks slots od op
     headline_here =
         subst (λ (z : Type 0). z) (λ i. HeadlineBy (SpellingBy request.rule) d p request.checks slots (printed_domain_is i) (printed_problem_is i))
-        (headline_choice d p source.value request.checks c slots request.style written.translated.value source.read.spelled source.read.ordered request.rule written.translated.printed)
+        (headline_by-rule d p source.value request.checks c slots request.style written.translated.value source.read.spelled source.read.ordered request.rule written.translated.printed)
 
     at_bound_here : HeadlineAtBoundBy (SpellingBy request.rule) d p request.checks slots od op
     at_bound_here =
         subst (λ (z : Type 0). z) (λ i. HeadlineAtBoundBy (SpellingBy request.rule) d p request.checks slots (printed_domain_is i) (printed_problem_is i))
-        (at_bound_choice d p source.value request.checks c slots request.style written.translated.value source.read.spelled source.read.ordered request.rule written.translated.printed)
+        (at_bound_by-rule d p source.value request.checks c slots request.style written.translated.value source.read.spelled source.read.ordered request.rule written.translated.printed)
 
     one_plan_here : request.rule ≡ First → OnePlanForEach (SpellingBy request.rule) d p request.checks slots od op
     one_plan_here first =

@@ -14,7 +14,7 @@ use Rattle.plan_proof.specs.OneGraph.{HaveOneGraph, HaveOneBound, HaveOneNamedCy
 use Rattle.slot_encoding.specs.encoded_texts.FullyEncoded.{IsFullyEncodedBy}
 use Rattle.plan_proof.specs.OneText.{AreTextsBy}
 use Rattle.plan_proof.proofs.one.OneGraph.{one_graph, one_bound, one_cycle}
-use Rattle.first_slots.proofs.OneText.{texts-same-by}
+use Rattle.first_slots.proofs.Texts.{one_pair}
 use Rattle.bound_calc.specs.stratifier.NamedCycle.{IsNamed}
 use Rattle.bound_calc.specs.stratifier.CycleWords.{cycle_words}
 use Rattle.bound_calc.specs.NoBound.{NamesCycle, spaced}
@@ -83,7 +83,7 @@ module _ (d p : List ℕ) (checks : Checks) (c k : Compiled) (one : SpellProblem
 
     pub texts_same : (v w : Pddl) → IsFullyEncodedBy rule c slots style v → IsFullyEncodedBy rule k slots style w → (domain_text v ≡ domain_text w) × (problem_text v ≡ problem_text w)
     texts_same v w is also =
-        texts-same-by rule d p checks slots style (domain_text v) (problem_text v) (domain_text w) (problem_text w) (texts_here v is) (texts_there w also)
+        one_pair rule d p checks slots style (domain_text v) (problem_text v) (domain_text w) (problem_text w) (texts_here v is) (texts_there w also)
 
 -- At a level.
 module _ (alike : ValuesHaveOneGroundBound) (level : Level) (d p : List ℕ) (checks : Checks) (c k : Compiled) (one : SpellProblem d p checks c) (other : SpellProblem d p checks k) where
