@@ -1,5 +1,5 @@
 -- A list that is put on a sheet behind a space: what opens it, its parts, and what closes it.
-use Rattle.std.proofs.Common.{ℕ, ◌≡◌, List, [], ◌∷◌, ◌++◌, refl, ap, sym, append_assoc}
+use Rattle.std.proofs.Common.{ℕ, ◌≡◌, List, [], ◌∷◌, ◌++◌, refl, ap, sym, ◌∙◌, append_assoc}
 use Rattle.std.proofs.lemmas.List.{append-nil}
 use Rattle.text_forms.specs.Lists.{Part, Parts, group, nothing, part}
 use Rattle.text_forms.specs.Words.{Word}
@@ -22,3 +22,7 @@ wrote-headed k ps a b c = wrote-as (append_assoc (32 ∷ 40 ∷ k) (bytes_behind
 pub closed : (ps : Parts) → (32 ∷ 40 ∷ []) ++ (between ps ++ 41 ∷ []) ≡ behind (group ps)
 closed nothing = refl
 closed (part p ps) = ap (λ z. 32 ∷ 40 ∷ z) (append_assoc (bytes p) (bytes_behind ps) (41 ∷ []))
+
+-- what is said of a quantifier is a list that begins with its word
+pub quantified-is : (k : Word) (g q : Part) → (32 ∷ 40 ∷ k) ++ (behind g ++ (behind q ++ 41 ∷ [])) ≡ behind (headed k (part g (part q nothing)))
+quantified-is k g q = ap (λ z. (32 ∷ 40 ∷ k) ++ z) (sym (append_assoc (behind g) (behind q) (41 ∷ [])) ∙ ap (λ z. (behind g ++ z) ++ 41 ∷ []) (sym (append-nil (behind q))))

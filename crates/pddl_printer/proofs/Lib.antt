@@ -4,6 +4,7 @@ pub mod Groups
 pub mod Typed
 pub mod Lines
 pub mod Ranges
+pub mod LowerRows
 pub mod LiteralBytes
 pub mod LiteralLengths
 pub mod CountedSheets

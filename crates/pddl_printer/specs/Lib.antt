@@ -8,7 +8,9 @@ pub mod Heads
 pub mod Texts
 pub mod Measured
 pub mod ActionLines
+pub mod LowestFree
 pub mod Splits
+pub mod LowerFacts
 pub mod Pages
 pub mod Drawings
 pub mod Batches

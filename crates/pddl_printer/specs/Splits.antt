@@ -1,4 +1,4 @@
--- An action of whose variables some differ, each two of them.
+-- An action of whose variables some differ, each two of them, and may have the lowest free objects.
 -- Source: this project's.
 use Rattle.std.specs.Prelude.{ℕ, List, [], ◌∷◌, ◌++◌, map, length, sum_by, codes}
 use Rattle.text_forms.specs.Words.{Word, word_at}
@@ -13,6 +13,7 @@ use Rattle.plan_model.specs.declared.formulas.Formula.TheVariants.{Equal, Not, A
 use Rattle.plan_model.specs.declared.schemas.ActionSchema.{ActionSchema}
 use Rattle.pddl_printer.specs.declared.splits.Split.{Split}
 use Rattle.pddl_printer.specs.Literals.{conditions_behind}
+use Rattle.pddl_printer.specs.LowestFree.{lowest_of}
 
 -- two variables differ
 abbrev pub unequal : ℕ → ℕ → Formula
@@ -27,7 +28,7 @@ abbrev pub split_action : Split → ActionSchema
 split_action s = record {
   name = s.name;
   params = s.params.now;
-  pre = And (s.before.now ++ (all_differ (numbers 1 s.spare) ++ s.behind.now));
+  pre = And (s.before.now ++ (all_differ (numbers 1 s.spare) ++ (s.behind.now ++ lowest_of s.lowest s.spare)));
   eff = s.eff.now;
 }
 

@@ -1,12 +1,14 @@
 ghost use Rattle.std.specs.Prelude.{IfSome};
 ghost use Rattle.plan_texts.specs.PrintedTexts.{domain_text, problem_text};
 ghost use Rattle.pddl_printer.specs.InForm.{value_in};
+ghost use Rattle.pddl_printer.specs.LowerFacts.{with_lower};
 ghost use Rattle.pddl_printer.specs.Measured.{IsMeasured, range_of};
 ghost use Rattle.pddl_printer.specs.Pages.{domain_start};
 ghost use Rattle.text_forms.specs.sheets.Sheets.{Wrote};
 
 use crate::facts::put_facts;
 use crate::items::put_items;
+use crate::lower::{Lower, put_lower};
 use crate::schemas::{put_action, put_condition};
 use crate::words::name_word;
 use crate::written::Written;
@@ -44,11 +46,12 @@ pub fn put_domain_start(p: &Pddl, sheet: &mut Sheet<'_>)
     sheet.put(b")\n");
 }
 
-/// Puts the problem, each section on a line of its own, with the quantifiers over the range in the goal as they are or written
-/// out.
-pub fn put_problem(p: &Pddl, written: Option<Written>, sheet: &mut Sheet<'_>)
+/// Puts the problem, each section on a line of its own, with the facts of lower objects behind its own, if there are any, and with the
+/// quantifiers over the range in the goal as they are or written out.
+pub fn put_problem(p: &Pddl, lower: Option<Lower>, written: Option<Written>, sheet: &mut Sheet<'_>)
     requires measured { IfSome written (IsMeasured p.now) }
-    ensures put { Wrote (problem_text (value_in (range_of written) p.now)) sheet.old sheet.new }
+    ensures put { Wrote (problem_text (value_in (range_of written) (with_lower lower p.now)))
+        sheet.old sheet.new }
 {
     sheet.put(b"(define (problem ");
     sheet.put(name_word(p, p.problem));
@@ -59,6 +62,7 @@ pub fn put_problem(p: &Pddl, written: Option<Written>, sheet: &mut Sheet<'_>)
     sheet.put(b" (:objects)\n");
     sheet.put(b" (:init");
     put_facts(p, &p.init, sheet);
+    put_lower(p, lower, sheet);
     sheet.put(b")\n");
     sheet.put(b" (:goal");
     put_condition(p, &Scope::Empty, written, 0, &p.goal, sheet);

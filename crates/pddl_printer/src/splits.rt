@@ -6,6 +6,7 @@ ghost use Rattle.text_forms.specs.sheets.Sheets.{Wrote};
 
 use crate::each_object::Instances;
 use crate::formulas::put_formulas;
+use crate::lowest::{Lowest, put_lowest};
 use crate::pairs::put_all_differ;
 use crate::schemas::{put_action_end, put_action_start};
 use crate::written::Written;
@@ -15,7 +16,8 @@ use plan_model::{Effect, Formula, Param, Pddl, Scope};
 use text_forms::sheets::Sheet;
 
 /// An action whose condition is a conjunction: of some parts, of one part for each two of its variables 1 to `spare`, that they
-/// differ, and of more parts. Those in the middle are as many as the square of `spare`, so they are never made.
+/// differ, of more parts, and, where it is asked, of one part for each of these variables, that it has the lowest free object but
+/// for those before it. What is said of `spare` variables is as long as its square, so it is never made.
 #[derive(Clone, Copy)]
 pub struct Split<'a> {
     pub name: Name,
@@ -23,6 +25,7 @@ pub struct Split<'a> {
     pub before: &'a [Formula],
     pub spare: u32,
     pub behind: &'a [Formula],
+    pub lowest: Option<Lowest>,
     pub eff: &'a Effect,
 }
 
@@ -39,6 +42,7 @@ pub fn put_split(p: &Pddl, written: Option<Written>, split: &Split<'_>, sheet: &
     put_parts(p, &scope, written, depth, split.before, sheet);
     put_all_differ(p, split.params, split.spare, sheet);
     put_parts(p, &scope, written, depth, split.behind, sheet);
+    put_lowest(p, &scope, split.lowest, split.spare, sheet);
     sheet.put(b")");
     put_action_end(p, written, split.params, split.eff, sheet);
 }

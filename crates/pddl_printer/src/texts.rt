@@ -29,6 +29,6 @@ pub fn print_problem(p: &Pddl, into: &mut Text) -> Result<(), Memory>
         SpellsPddl (domain_text p.now) (problem_text p.now) p.now }
 {
     let mut sheet = Sheet::new(into, u64::MAX);
-    put_problem(p, None, &mut sheet);
+    put_problem(p, None, None, &mut sheet);
     sheet.complete()
 }

@@ -6,7 +6,7 @@ use Rattle.plan_model.specs.declared.terms.Atom.{Atom}
 use Rattle.plan_model.specs.declared.terms.Param.{Param}
 use Rattle.plan_model.specs.declared.formulas.Formula.{Formula, out-Formula, out-roll-Formula}
 use Rattle.plan_model.specs.declared.formulas.Formula.TheOpen.{Formula-F}
-use Rattle.plan_model.specs.declared.formulas.Formula.TheVariants.{Holds, Equal, Not, And, Forall, rolls-Holds, rolls-Equal, rolls-Not, rolls-And, rolls-Forall}
+use Rattle.plan_model.specs.declared.formulas.Formula.TheVariants.{Holds, Equal, Not, And, Imply, Forall, rolls-Holds, rolls-Equal, rolls-Not, rolls-And, rolls-Imply, rolls-Forall}
 use Rattle.plan_model.specs.declared.effects.Effect.{Effect, out-Effect, out-roll-Effect}
 use Rattle.plan_model.specs.declared.effects.Effect.TheOpen.{Effect-F}
 use Rattle.plan_model.specs.declared.effects.Effect.TheVariants as E
@@ -24,6 +24,9 @@ out-Not f = ap out-Formula (sym (rolls-Not f)) ∙ out-roll-Formula (Formula-F.N
 
 pub out-And : (fs : List Formula) → out-Formula (And fs) ≡ Formula-F.And fs
 out-And fs = ap out-Formula (sym (rolls-And fs)) ∙ out-roll-Formula (Formula-F.And fs)
+
+pub out-Imply : (f g : Formula) → out-Formula (Imply f g) ≡ Formula-F.Imply f g
+out-Imply f g = ap out-Formula (sym (rolls-Imply f g)) ∙ out-roll-Formula (Formula-F.Imply f g)
 
 pub out-Forall : (xs : List Param) (f : Formula) → out-Formula (Forall xs f) ≡ Formula-F.Forall xs f
 out-Forall xs f = ap out-Formula (sym (rolls-Forall xs f)) ∙ out-roll-Formula (Formula-F.Forall xs f)

@@ -1,8 +1,8 @@
-use Rattle.std.proofs.Common.{refl, ◌≡◌, List, [], ◌∷◌, ◌++◌, map, codes, ap, sym, ◌∙◌, append_assoc}
-use Rattle.std.proofs.lemmas.List.{append-nil, map-append}
-use Rattle.text_forms.specs.Lists.{Part, Parts, group, nothing, part}
+use Rattle.std.proofs.Common.{refl, List, ◌∷◌, map, codes, ap, sym, ◌∙◌}
+use Rattle.std.proofs.lemmas.List.{map-append}
+use Rattle.text_forms.specs.Lists.{Parts, group, nothing, part}
 use Rattle.text_forms.specs.Words.{Word}
-use Rattle.text_forms.specs.Printing.{bytes_behind, headed}
+use Rattle.text_forms.specs.Printing.{bytes_behind}
 use Rattle.plan_texts.specs.SpellsPddl.{pddl_words}
 use Rattle.plan_texts.specs.Printed.{all_parts, params_parts, formula_part}
 use Rattle.pddl_printer.specs.Behind.{behind}
@@ -10,6 +10,7 @@ use Rattle.plan_model.specs.Scopes.{in_force}
 use Rattle.pddl_printer.specs.Texts.{quantified_text}
 use Rattle.pddl_printer.specs.Scopes.{words_in_force, words_within}
 use Rattle.pddl_printer.proofs.Each.{behind-each}
+use Rattle.pddl_printer.proofs.Groups.{quantified-is}
 use Rattle.pddl_printer.proofs.Batches.{added-as, added-then, added-of, added-one, added-two, added-headed, each-added, each-added-all}
 use Rattle.plan_texts.specs.Declared.{Declared, variable}
 use Rattle.plan_model.specs.declared.formulas.Formula.{Formula}
@@ -19,10 +20,6 @@ use Rattle.pddl_printer.proofs.formulas.+formulas.Goals as goal
 -- formulas, each behind a space
 abbrev all : Declared → List Word → List Formula → Parts
 all v s fs = all_parts (map (λ f. formula_part v f s) fs)
-
--- what is said of a quantifier is a list that begins with its word
-quantified-is : (k : Word) (g q : Part) → (32 ∷ 40 ∷ k) ++ (behind g ++ (behind q ++ 41 ∷ [])) ≡ behind (headed k (part g (part q nothing)))
-quantified-is k g q = ap (λ z. (32 ∷ 40 ∷ k) ++ z) (sym (append_assoc (behind g) (behind q) (41 ∷ [])) ∙ ap (λ z. (behind g ++ z) ++ 41 ∷ []) (sym (append-nil (behind q))))
 
 pub add_formula-returns-in-Equal : goal.add_formula-returns-in-Equal
 add_formula-returns-in-Equal t c =

@@ -5,6 +5,7 @@ use Rattle.plan_texts.specs.SpellsPddl.{pddl_words}
 use Rattle.plan_texts.specs.Printed.{all_parts, formula_part}
 use Rattle.pddl_printer.specs.Behind.{behind}
 use Rattle.pddl_printer.specs.InForm.{parts_in}
+use Rattle.pddl_printer.specs.LowestFree.{lowest_of}
 use Rattle.pddl_printer.specs.Measured.{range_of}
 use Rattle.pddl_printer.specs.Splits.{all_differ, split_action}
 use Rattle.text_forms.proofs.sheets.Written.{wrote-as, wrote-then}
@@ -21,10 +22,10 @@ returns c =
     let range = range_of c.args.written in
     let depth = length split.params.now in
     let pairs = numbers 1 split.spare in
-    let all = split.before.now ++ (all_differ pairs ++ split.behind.now) in
+    let all = split.before.now ++ (all_differ pairs ++ (split.behind.now ++ lowest_of split.lowest split.spare)) in
     let condition =
     wrote-at behind (conjunction-part v s range depth all)
     (wrote-headed (codes "and") (all_parts (map (λ f. formula_part v f s) (parts_in range depth all))) c.put.ensures.wrote
-    (wrote-as (split-bytes v s range depth split.before.now pairs split.behind.now) (wrote-then c.put_parts.ensures (wrote-then c.put_all_differ.ensures c.put_parts-2.ensures)))
+    (wrote-as (split-bytes v s range depth split.before.now pairs split.behind.now split.lowest split.spare) (wrote-then c.put_parts.ensures (wrote-then c.put_all_differ.ensures (wrote-then c.put_parts-2.ensures c.put_lowest.ensures))))
     c.put-2.ensures.wrote) in
     record { put = wrote-as (action-is c.args.p.now range (split_action split)) (wrote-then c.put_action_start.ensures (wrote-then condition c.put_action_end.ensures)) }
