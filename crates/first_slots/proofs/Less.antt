@@ -21,7 +21,7 @@ use Rattle.plan_proof.proofs.machine.Reading.{IsKnown, held, free_atom, pair, Re
 use Rattle.plan_proof.proofs.machine.Atoms.{one_slot, behind_held, behind_free, behind_before, behind_source}
 use Rattle.plan_proof.proofs.machine.Facts.{PiecesMean}
 use Rattle.plan_proof.proofs.machine.Starts.{Kind, is_top, is_free, is_source, is_guard, kind_of, Contains-mapped, start_reads}
-use Rattle.first_slots.proofs.Plain.{narrowed}
+use Rattle.slot_encoding.proofs.first_free.FirstValue.{first_of}
 
 joined_to : {A : Type 0} (xss : List (List A)) (x : A) → Contains (joined xss) x → (xs : List A) × Contains xss xs × Contains xs x
 joined_to [] x d = absurd (not-in_empty x d)
@@ -106,7 +106,7 @@ module _ (c : Compiled) (b : ℕ) (style : Style) (q : Pddl) where
         go (is_guard ty v e) = let f = ap (λ (g : GroundAtom). g.args) e in cc
 
     abbrev first : State
-    first = Contains (narrowed c b style q).init
+    first = Contains (first_of c b style q).init
 
     pub start_tells : TellsLess first
     start_tells x y s t = (

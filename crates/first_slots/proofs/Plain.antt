@@ -13,10 +13,10 @@ use Rattle.plan_texts.specs.Declared.{named}
 use Rattle.plan_texts.specs.Types.{EachIs}
 use Rattle.plan_texts.specs.Printable.{IsPlain}
 use Rattle.plan_texts.specs.SpellsPddl.{pddl_words}
-use Rattle.slot_encoding.specs.EncodedActions.{encoded_method}
 use Rattle.slot_encoding.specs.EncodedValue.{encoded_methods, encoded_checks, encoded_source, encoded_actions}
-use Rattle.slot_encoding.specs.FirstFree.{less, first_method, first_methods, first_actions, less_facts, IsFirstEncoded}
+use Rattle.slot_encoding.specs.FirstFree.{first_method, first_methods, first_actions}
 use Rattle.slot_encoding.specs.Printed.{IsPrintedFirst}
+use Rattle.slot_encoding.proofs.first_free.FirstActions.{first_actions-named}
 use Rattle.slot_encoding.proofs.places.ActionPlaces.{length-methods}
 use Rattle.slot_encoding.proofs.places.ListPlaces.{get_append_cases, get_left, get_right, get_within}
 use Rattle.slot_encoding.proofs.places.WellWorded.{IsWellWorded}
@@ -102,31 +102,6 @@ module _ (c : Compiled) (names : List (List ℕ)) (b : ℕ) (style : Style) wher
         )
   ]
 
-  -- with the same words
-  abbrev word_of : ActionSchema → Word
-  word_of a = named names a.name
-
-  methods_named : (m : ℕ) (plans : List MethodPlan) (rest : List ActionSchema) → map word_of (first_methods c names b style m plans ++ rest) ≡ map word_of (encoded_methods c names b style m plans ++ rest)
-  methods_named m [] rest = refl
-  methods_named m (plan ∷ plans) rest = ap (λ z. word_of (encoded_method c names b style m plan) ∷ z) (methods_named (suc m) plans rest)
-
-  pub same_words : map (λ (a : ActionSchema). named names a.name) (first_actions c names b style) ≡ map (λ (a : ActionSchema). named names a.name) (encoded_actions c names b style)
-  same_words = ap (map word_of) first_is ∙ methods_named 0 c.methods works ∙ ap (map word_of) (sym plain_is)
-
--- the value with the three parts more
-abbrev pub narrowed : Compiled → ℕ → Style → Pddl → Pddl
-narrowed c b style q = record {
-  names = q.names;
-  domain = q.domain;
-  problem = q.problem;
-  types = q.types;
-  objects = q.objects;
-  predicates = q.predicates ++ less c q.names b style ∷ [];
-  actions = first_actions c q.names b style;
-  init = q.init ++ less_facts c q.names b style;
-  goal = q.goal;
-}
-
 -- so the plain one is well worded
 module _ (h : Hddl) (mode : Checks) (c : Compiled) (b : ℕ) (style : Style) (p : Pddl) (is : IsPrintedFirst h mode c b style p) where
   abbrev pub plain : Pddl
@@ -136,7 +111,7 @@ module _ (h : Hddl) (mode : Checks) (c : Compiled) (b : ℕ) (style : Style) (p 
   words z = map (λ (a : ActionSchema). named z.names a.name) z.actions
 
   actions_are : words p ≡ words is.encoded.plain
-  actions_are = ap words is.encoded.value_is ∙ same_words c is.encoded.plain.names b style ∙ ap (map (λ (a : ActionSchema). named is.encoded.plain.names a.name)) (sym is.encoded.encoded.actions)
+  actions_are = ap words is.encoded.value_is ∙ first_actions-named c is.encoded.plain.names b style ∙ ap (map (λ (a : ActionSchema). named is.encoded.plain.names a.name)) (sym is.encoded.encoded.actions)
 
   objects_are : (pddl_words p).objects ≡ (pddl_words is.encoded.plain).objects
   objects_are = ap (λ z. (pddl_words z).objects) is.encoded.value_is

@@ -33,6 +33,7 @@ use Rattle.slot_encoding.specs.EncodedNames.{top_predicate, first_slot, encoded_
 use Rattle.slot_encoding.specs.EncodedValue.{atom}
 use Rattle.slot_encoding.specs.FirstFree.{less_facts}
 use Rattle.slot_encoding.specs.Printed.{IsPrintedFirst}
+use Rattle.slot_encoding.proofs.first_free.FirstValue.{first_of}
 use Rattle.slot_encoding.proofs.places.WellWorded.{IsWellWorded}
 use Rattle.plan_proof.specs.Faithful.{SpellingsAreWithinBy, FrontsWithinAreSpelledBy, IsFaithfulValue, IsFaithfulValueBy}
 use Rattle.plan_proof.specs.Headline.{SpellingForm, SpellsExecutableFrontBy, SpellsSolutionBy, SpellsOneBy, IsFaithfulBy, EachHasOneSpelling, EachHasOnePlan}
@@ -44,7 +45,7 @@ use Rattle.plan_proof.proofs.machine.Reading.{Reads}
 use Rattle.plan_proof.proofs.machine.Runs.{reached_first}
 use Rattle.first_slots.specs.LowestSpelling.{IsLowestSpelling}
 use Rattle.first_slots.proofs.Less.{start_tells, first_reads}
-use Rattle.first_slots.proofs.Plain.{narrowed, plain_well}
+use Rattle.first_slots.proofs.Plain.{plain_well}
 use Rattle.first_slots.proofs.Steps.{AreRuled, ruled_runs, runs_ruled, steps_to, steps_from}
 
 module _ (h : Hddl) (mode : Checks) (c : Compiled) (ordered : AreOrdered h) (compiled : IsCompiled h mode c) where
@@ -86,13 +87,13 @@ module _ (h : Hddl) (mode : Checks) (c : Compiled) (b : ℕ) (style : Style) (q 
   N = network c
 
   abbrev p : Pddl
-  p = narrowed c b style q
+  p = first_of c b style q
 
   abbrev means : PiecesMean c b style q
   means = worded_means h mode c b style q ordered well
 
   abbrev first : State
-  first = Contains (narrowed c b style q).init
+  first = Contains (first_of c b style q).init
 
   abbrev begin : SlotState N
   begin = start N b (top_work c)

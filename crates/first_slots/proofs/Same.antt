@@ -21,7 +21,7 @@ use Rattle.plan_proof.specs.Same.{AreSameButNames}
 use Rattle.plan_proof.proofs.values.TypeNumbers.{AreApart}
 use Rattle.plan_proof.proofs.values.SameActions.{Alike, objects-count, guard_types-same, free-same, first_guard-same, method-printed, checks-printed, sources-printed, e_spare, e_depth, e_pre}
 use Rattle.plan_proof.proofs.values.SameValue.{encoded_too}
-use Rattle.first_slots.proofs.Plain.{narrowed}
+use Rattle.slot_encoding.proofs.first_free.FirstValue.{first_of}
 
 module _ (c d : Compiled) (same : AreSameButNames c.hddl d.hddl) (sc : IsSoundHddl c.hddl) (sd : IsSoundHddl d.hddl) (apart : AreApart (hddl_words d.hddl).unions) (plans : Together (Alike c d same sc sd apart) c.methods d.methods) where
   free : free_predicate c ≡ free_predicate d
@@ -64,13 +64,13 @@ module _ (c d : Compiled) (same : AreSameButNames c.hddl d.hddl) (sc : IsSoundHd
     facts-same = let l = less-same in let o = objects-count c d same sc sd apart plans in
         λ i. joined (map (λ j. map (λ k. record { predicate = l i; args = (o i + (j - 1)) ∷ (o i + (k - 1)) ∷ [] }) (numbers (suc j) (b - j))) (numbers 1 b))
 
-  narrowed-same : (b : ℕ) (style : Style) (q : Pddl) → narrowed c b style q ≡ narrowed d b style q
-  narrowed-same b style q = let f = first_actions-same q.names b style in let g = facts-same q.names b style in
+  first_of-same : (b : ℕ) (style : Style) (q : Pddl) → first_of c b style q ≡ first_of d b style q
+  first_of-same b style q = let f = first_actions-same q.names b style in let g = facts-same q.names b style in
       λ i. record { names = q.names; domain = q.domain; problem = q.problem; types = q.types; objects = q.objects; predicates = q.predicates ++ less d q.names b style ∷ []; actions = f i; init = q.init ++ g i; goal = q.goal }
 
   pub first_encoded_too : (b : ℕ) (style : Style) (p : Pddl) → IsFirstEncoded d b style p → IsFirstEncoded c b style p
   first_encoded_too b style p e = record {
     plain = e.plain;
     encoded = encoded_too c d same sc sd apart plans b style e.plain e.encoded;
-    value_is = e.value_is ∙ sym (narrowed-same b style e.plain);
+    value_is = e.value_is ∙ sym (first_of-same b style e.plain);
   }

@@ -30,6 +30,7 @@ use Rattle.slot_encoding.proofs.places.ActionPlaces.{method_at}
 use Rattle.slot_encoding.proofs.places.ListPlaces.{get_within, get_contains, contains_get}
 use Rattle.slot_encoding.proofs.places.ObjectTypes.{types_agree}
 use Rattle.slot_encoding.proofs.places.Sums.{each-append}
+use Rattle.slot_encoding.proofs.first_free.FirstValue.{first_of}
 use Rattle.slot_encoding.proofs.places.WellWorded.{IsWellWorded}
 use Rattle.plan_proof.proofs.machine.ActionWords.{same_action}
 use Rattle.plan_proof.proofs.machine.Facts.{PiecesMean}
@@ -43,7 +44,7 @@ use Rattle.plan_proof.proofs.machine.Runs.{IsReached, reached_next, act_to}
 use Rattle.plan_proof.proofs.machine.StepWords.{place_of, Shows, shown, steps_are_acts}
 use Rattle.first_slots.proofs.Less.{TellsLess, tells_after}
 use Rattle.first_slots.proofs.LowestTrue.{first_true}
-use Rattle.first_slots.proofs.Plain.{IsNarrowed, IsUnchanged, first_cases, narrowed_at, unchanged_at, narrowed}
+use Rattle.first_slots.proofs.Plain.{IsNarrowed, IsUnchanged, first_cases, narrowed_at, unchanged_at}
 
 -- of the machine's acts one after another the new slots are the lowest free ones
 module _ (c : Compiled) where
@@ -78,7 +79,7 @@ module _ (h : Hddl) (mode : Checks) (c : Compiled) (b : ℕ) (style : Style) (q 
   N = network c
 
   abbrev p : Pddl
-  p = narrowed c b style q
+  p = first_of c b style q
 
   abbrev means : PiecesMean c b style q
   means = worded_means h mode c b style q ordered well
@@ -130,7 +131,7 @@ module _ (h : Hddl) (mode : Checks) (c : Compiled) (b : ℕ) (style : Style) (q 
         act = acted.0;
         schema = encoded_method c q.names b style k plan;
         step_is = acted.1;
-        applies = (acted.2, plain_true k plan os true);
+        applies = (acted.2, plain_true k plan os met);
         ruled = ruled acted.0 refl acted.2;
         same = ap (λ (z : ActionSchema). z.eff) i;
       }
@@ -141,8 +142,8 @@ module _ (h : Hddl) (mode : Checks) (c : Compiled) (b : ℕ) (style : Style) (q 
           named : slice_get q.names (encoded_method c q.names b style k plan).name.number ≡ Some step.name
           named = subst (λ (z : ActionSchema). slice_get q.names z.name.number ≡ Some step.name) i app.name
 
-          true : True (first_method c q.names b style k plan) os
-          true = subst (λ z. True z os) i app.condition
+          met : True (first_method c q.names b style k plan) os
+          met = subst (λ z. True z os) i app.condition
 
           acted : (act : Act (network c)) × (step ≡ step_of c act) × IsActBy c b style q act (encoded_method c q.names b style k plan) os
           acted = words.to_act S step (encoded_method c q.names b style k plan) os (record {
@@ -150,7 +151,7 @@ module _ (h : Hddl) (mode : Checks) (c : Compiled) (b : ℕ) (style : Style) (q 
             name = named;
             objects_are = app.objects_are;
             typed = subst (λ (z : ActionSchema). AreTyped (InT c b style q) z.params os) i app.typed;
-            condition = plain_true k plan os true;
+            condition = plain_true k plan os met;
           })
 
           place : k ≡ place_of h mode c b style q well acted.0
@@ -163,7 +164,7 @@ module _ (h : Hddl) (mode : Checks) (c : Compiled) (b : ℕ) (style : Style) (q 
               let m = ap (slice_get c.methods) l in
               let o = is.is in
               let same : plan ≡ is.plan = cc in
-              ((method_iff j new g (encoded_method c q.names b style k plan) os is).0 (subst (λ z. True (first_method c q.names b style g.number z) os) same (subst (λ z. True (first_method c q.names b style z plan) os) l true))).1
+              ((method_iff j new g (encoded_method c q.names b style k plan) os is).0 (subst (λ z. True (first_method c q.names b style g.number z) os) same (subst (λ z. True (first_method c q.names b style z plan) os) l met))).1
 
       of_other : (k : ℕ) → IsUnchanged c q.names b style k a → IsPlainStep step a os
       of_other k (l, f) = record { act = acted.0; schema = a; step_is = acted.1; applies = (acted.2, app.condition); ruled = ruled acted.0 refl acted.2; same = refl }

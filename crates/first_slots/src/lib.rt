@@ -16,9 +16,7 @@ pub use plan_laws::{
     each_schedule_has_one_spelling, first_texts_are_faithful, first_texts_lose_nothing,
     first_value_is_faithful,
 };
-pub use print_laws::{
-    one_pair_of_texts_by, printed_texts_are_the_pair_by, some_pair_of_texts_by,
-};
+pub use print_laws::{one_pair_of_texts_by, printed_texts_are_the_pair_by, some_pair_of_texts_by};
 pub use value_laws::{
     each_schedule_has_one_plan, headline_at_bound_by, headline_by, printed_for_each_by,
 };

@@ -101,9 +101,9 @@ module _ (c : Compiled) (b : ℕ) (style : Style) (p : Pddl) (m : PiecesMean c b
       action_taken tr =
           let x = action_true.0 tr in
           let left = work_reads h args (action_predicate c n) (length s.params) (source_change c p.names b style 1 s.eff) w (typed_long (InTypeOf c) s.params args typed) known slot refl
-              (Deletes (InTypeOf c) T s.eff args) (Adds (InTypeOf c) T s.eff args)
-              (λ g z. means.deletes_source s.eff args g (m.fits.action_eff n s is) z) (λ g z. means.adds_source s.eff args g (m.fits.action_eff n s is) z)
-              (λ g. means.deletes s.eff args g (m.fits.action_eff n s is)) (λ g. means.adds s.eff args g (m.fits.action_eff n s is)) in record {
+          (Deletes (InTypeOf c) T s.eff args) (Adds (InTypeOf c) T s.eff args)
+          (λ g z. means.deletes_source s.eff args g (m.fits.action_eff n s is) z) (λ g z. means.adds_source s.eff args g (m.fits.action_eff n s is) z)
+          (λ g. means.deletes s.eff args g (m.fits.action_eff n s is)) (λ g. means.adds s.eff args g (m.fits.action_eff n s is)) in record {
             may = record { holds = (r.holds h w).1 (known, slot, x.0); simple = tt; unblocked = (unblocked_iff c b style p S t T h r slot).1 x.1 };
             allows = subst (λ o. AllowsAction c T o args) (sym is) ((means.condition s.pre args (m.fits.action_pre n s is)).0 x.2);
             reads = subst (λ o. Reads c b style p (after (InT c b style p) S (encoded_action c p.names b style n s).eff xs) (Machine.after_act N t (run h w)) (after_action c T o args)) (sym is) left.0;
@@ -154,7 +154,7 @@ module _ (c : Compiled) (b : ℕ) (style : Style) (p : Pddl) (m : PiecesMean c b
       check_taken tr =
           let x = check_true.0 tr in
           let left = work_reads h args (check_predicate c n) (length plan.schema.params) [] v (typed_long (InTypeOf c) plan.schema.params args typed) known_check slot refl
-              (λ g. ⊥) (λ g. ⊥) (λ g z. absurd z) (λ g z. absurd z) (λ g. (λ z. z, λ z. z)) (λ g. (λ z. z, λ z. z)) in record {
+          (λ g. ⊥) (λ g. ⊥) (λ g z. absurd z) (λ g z. absurd z) (λ g. (λ z. z, λ z. z)) (λ g. (λ z. z, λ z. z)) in record {
             may = record { holds = (r.holds h v).1 (known_check, slot, x.0); simple = tt; unblocked = (unblocked_iff c b style p S t T h r slot).1 x.1 };
             allows = subst (λ o. AllowsCheck c T o args) (sym is) ((says.condition plan.schema.pre args (m.fits.method_pre n plan is)).0 x.2);
             reads = reads_alike c b style p (after (InT c b style p) S (encoded_check c p.names b style n plan).eff ys) (after (InT c b style p) S (encoded_check c p.names b style n plan).eff ys)
