@@ -31,11 +31,11 @@ module _ (c d : Compiled) (b : ℕ) where
   words = less_word ∷ encoded_words c b ++ encoded_words d b
 
   has_first : (rule : Slots) → HasWordsBy rule c b words
-  has_first Any w h = Contains-later less_word (encoded_words c b ++ encoded_words d b) w (Contains-append_left (encoded_words c b) (encoded_words d b) w h)
+  has_first Any = λ w h. Contains-later less_word (encoded_words c b ++ encoded_words d b) w (Contains-append_left (encoded_words c b) (encoded_words d b) w h)
   has_first First = (λ w h. Contains-later less_word (encoded_words c b ++ encoded_words d b) w (Contains-append_left (encoded_words c b) (encoded_words d b) w h), Contains-here less_word (encoded_words c b ++ encoded_words d b))
 
   has_second : (rule : Slots) → HasWordsBy rule d b words
-  has_second Any w h = Contains-later less_word (encoded_words c b ++ encoded_words d b) w (Contains-append_right (encoded_words c b) (encoded_words d b) w h)
+  has_second Any = λ w h. Contains-later less_word (encoded_words c b ++ encoded_words d b) w (Contains-append_right (encoded_words c b) (encoded_words d b) w h)
   has_second First = (λ w h. Contains-later less_word (encoded_words c b ++ encoded_words d b) w (Contains-append_right (encoded_words c b) (encoded_words d b) w h), Contains-here less_word (encoded_words c b ++ encoded_words d b))
 
 -- two pairs of printed texts of one pair of source texts

@@ -16,6 +16,7 @@ use Rattle.plan_model.specs.task_networks.Front.{IsFront}
 use Rattle.plan_model.specs.task_networks.Lawful.{IsLawful}
 use Rattle.plan_model.specs.task_networks.Spelling.{Act, apply, run, Spells}
 use Rattle.plan_model.proofs.task_networks.ScheduleLaws.{prepared_is_lawful}
+use Rattle.plan_model.proofs.task_networks.SpellingTests.{spells_by}
 use Rattle.plan_model.specs.plan_meaning.Truth.{State, IsTrueIn, after}
 use Rattle.plan_model.specs.plan_meaning.ClassicalPlan.{IsPlan, IsExecutable}
 use Rattle.plan_model.specs.plan_meaning.Compilation.{IsCompiled}
@@ -125,8 +126,8 @@ high_words : map (step_of three) high_acts ≡ high_steps
 high_words = λ i.
     step (codes "htn_start") (slot_1 i ∷ slot_3 i ∷ slot_2 i ∷ []) ∷ step (codes "c") (slot_1 i ∷ []) ∷ step (codes "b") (slot_2 i ∷ []) ∷ step (codes "a") (slot_3 i ∷ []) ∷ []
 
-low : IsSpelling three 4 (map (step_of three) low_acts) tree order low_slot
-low = spelling_by three 4 low_acts tree order low_slot front refl refl ((refl, refl, refl), ((refl, refl), ((refl, refl), ((refl, refl), tt))))
+low_spells : Spells (network three) 4 (top_work three) low_acts tree order low_slot
+low_spells = spells_by (network three) 4 (top_work three) low_acts tree order low_slot front refl refl ((refl, refl, refl), ((refl, refl), ((refl, refl), ((refl, refl), tt))))
 
 high : IsSpelling three 4 high_steps tree order high_slot
 high = subst (λ z. IsSpelling three 4 z tree order high_slot) high_words (spelling_by three 4 high_acts tree order high_slot front refl refl ((refl, refl, refl), ((refl, refl), ((refl, refl), ((refl, refl), tt)))))
@@ -144,14 +145,11 @@ two_three_lowest (b ∷ []) rest x y e f l =
 two_three_lowest (b ∷ d ∷ []) rest x y e f l = absurd cc
 two_three_lowest (b ∷ d ∷ g ∷ before) rest x y e f l = absurd cc
 
-low_spells : Spells (network three) 4 (top_work three) low_acts tree order low_slot
-low_spells = low.1
-
 low_lowest : AreLowest (network three) tree low_slot order
 low_lowest = to_lowest three law 4 (omega arith) low_acts tree order low_slot low_spells (two_three_lowest, (tt, (tt, (tt, tt))))
 
 low_is : IsLowestSpelling three 4 low_steps tree order low_slot
-low_is = subst (λ z. IsLowestSpelling three 4 z tree order low_slot) low_words (record { spelling = low; lowest = low_lowest })
+low_is = subst (λ z. IsLowestSpelling three 4 z tree order low_slot) low_words (record { spelling = (low_acts, low_spells, refl); lowest = low_lowest })
 
 -- with any free slots both are plans
 pub both_are_plans : OfEachPrinted three 4 (λ p. IsPlan p low_steps × IsPlan p high_steps)
