@@ -18,6 +18,7 @@ mod reach;
 
 pub use all_edges::edges;
 pub use bad::bad_marks;
+pub use by_task::methods_by_task;
 pub use edge::Edge;
 pub use laws::compiled_networks_have_no_cycle;
 pub use ranks::{Ranks, StratError, stratify};

@@ -13,8 +13,8 @@ use Rattle.plan_texts.specs.SpellsHddl.{hddl_words}
 use Rattle.plan_texts.proofs.Together.{maps-length}
 use Rattle.decode_answers.proofs.AlikeValues.{StandTogether, SamePlan, AreTwins, plan_place}
 use Rattle.decode_answers.proofs.AlikeReaders.{head_same, works_same}
-use Rattle.ground_bound.specs.NetworkEdges.{Edge, IsNamedCycle}
-use Rattle.ground_bound.specs.NetworkBound.{IsBoundOf}
+use Rattle.slot_machine.specs.bound_laws.NetworkEdges.{Edge, IsNamedCycle}
+use Rattle.slot_machine.specs.bound_laws.NetworkBound.{IsBoundOf}
 use Rattle.ground_bound.specs.Reached.{over, IsReachedBy}
 use Rattle.ground_bound.specs.GroundBound.{IsBefore}
 

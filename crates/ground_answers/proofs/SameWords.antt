@@ -9,7 +9,7 @@ use Rattle.decode_answers.proofs.AlikeValues.{StandTogether, SamePlan, SameTask,
 use Rattle.decode_answers.proofs.AlikeReaders.{head_same, works_same}
 use Rattle.bound_calc.specs.stratifier.CycleWords.{task_by, method_by, method_word}
 use Rattle.bound_calc.specs.NoBound.{spaced}
-use Rattle.ground_bound.specs.NetworkEdges.{Edge, source, target_by, target}
+use Rattle.slot_machine.specs.bound_laws.NetworkEdges.{Edge, source, target_by, target}
 use Rattle.ground_bound.specs.GroundCycleWords.{object_by, object_word, ground_task_word, ground_cycle_words}
 
 module _ (c d : Compiled) (t : AreTwins c d) where

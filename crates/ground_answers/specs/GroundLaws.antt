@@ -9,7 +9,7 @@ use Rattle.plan_model.specs.plan_meaning.Compilation.{IsCompiled}
 use Rattle.plan_model.specs.plan_meaning.Network.{GroundMethod}
 use Rattle.plan_texts.specs.FirstSeen.{IsHddlOf}
 use Rattle.plan_texts.specs.SoundProblem.{IsSoundProblem}
-use Rattle.ground_bound.specs.NetworkEdges.{Edge}
+use Rattle.slot_machine.specs.bound_laws.NetworkEdges.{Edge}
 use Rattle.ground_bound.specs.Reached.{AreReached, IsSize}
 use Rattle.ground_bound.specs.GroundBound.{IsGroundBound, IsGroundCycle}
 use Rattle.ground_bound.specs.GroundCycleWords.{ground_cycle_words}

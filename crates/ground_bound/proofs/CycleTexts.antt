@@ -16,7 +16,7 @@ use Rattle.plan_model.proofs.plan_meaning.MethodParts.{works_by}
 use Rattle.bound_calc.specs.stratifier.CycleWords.{method_word}
 use Rattle.bound_calc.specs.NoBound.{spaced}
 use Rattle.bound_calc.proofs.Cycles.{two_more}
-use Rattle.ground_bound.specs.NetworkEdges.{Edge, source, target_by, target}
+use Rattle.slot_machine.specs.bound_laws.NetworkEdges.{Edge, source, target_by, target}
 use Rattle.ground_bound.specs.NoGroundBound.{edge_of}
 use Rattle.ground_bound.specs.GroundCycleWords.{object_word, ground_task_word, ground_cycle_words}
 use Rattle.ground_bound.specs.declared.ground_error.GroundEdge.{GroundEdge}

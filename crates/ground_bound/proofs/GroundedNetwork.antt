@@ -33,21 +33,21 @@ use Rattle.plan_model.proofs.plan_meaning.BoundParts.{AreWhole, there_at}
 use Rattle.plan_model.proofs.plan_meaning.BoundIsOne.{bound_is_one}
 use Rattle.plan_texts.specs.SoundlyCompiled.{IsSoundlyCompiled}
 use Rattle.slot_machine.proofs.bound_laws.Decided.{Or_not}
-use Rattle.ground_bound.specs.NetworkEdges as Edges
-use Rattle.ground_bound.specs.NetworkEdges.{Edge}
-use Rattle.ground_bound.specs.NetworkBound.{IsBoundOf}
-use Rattle.ground_bound.specs.Finite.{IsFinite}
+use Rattle.slot_machine.specs.bound_laws.NetworkEdges as Edges
+use Rattle.slot_machine.specs.bound_laws.NetworkEdges.{Edge}
+use Rattle.slot_machine.specs.bound_laws.NetworkBound.{IsBoundOf}
+use Rattle.slot_machine.specs.bound_laws.Finite.{IsFinite}
 use Rattle.ground_bound.specs.Reached.{over}
 use Rattle.ground_bound.specs.GroundBound.{IsBefore, IsGroundBound, IsGroundCycle}
 use Rattle.ground_bound.specs.Search.{method_of, methods_of, task_of, action_of, AreTheReached}
 use Rattle.ground_bound.specs.Grounded.{AreInOrder, method_at, ground_edge, place_of, StandsFor, StandsForChild, IsGroundedMethod, IsGroundedRow, IsGrounded}
-use Rattle.ground_bound.proofs.Checks.{to_map}
+use Rattle.slot_machine.proofs.OtherChildren.{Contains-map}
 use Rattle.ground_bound.proofs.Searching.{place}
 use Rattle.ground_bound.proofs.Places.{zip_at, map_get, one_place}
-use Rattle.ground_bound.proofs.MappedWalks.{map_cut, same_group, tail_there, named_there}
+use Rattle.slot_machine.proofs.bound_laws.MappedWalks.{map_cut, same_group, tail_there, named_there}
 use Rattle.ground_bound.proofs.AlikeNetworks.{AreAlike, child_there, child_back, reached_there, same_reached_head, same_last, its_bound}
-use Rattle.ground_bound.proofs.FiniteEdges.{one_list}
-use Rattle.ground_bound.proofs.FiniteBound.{at_contains, tail_recursive_has_bound}
+use Rattle.slot_machine.proofs.bound_laws.FiniteEdges.{one_list}
+use Rattle.slot_machine.proofs.bound_laws.FiniteBound.{at_contains, tail_recursive_has_bound}
 use Rattle.ground_bound.proofs.GroundNetwork.{finite}
 
 different_first : {A : Type 0} (xs ys : List A) → AreDifferent (xs ++ ys) → AreDifferent xs
@@ -153,7 +153,7 @@ module _ (c : Compiled) (soundly : IsSoundlyCompiled c) (tasks actions rows sort
   alike : AreAlike M N top (top_work c) method (Same tasks)
   alike = record {
     tops = let l = is.count in (omega arith, row_of (top_task c) [], subst (λ k. slice_get tasks k ≡ Some (row_of (top_task c) [])) (let z : 0 ≡ place_of tasks (top_task p) = omega arith in z) first, refl);
-    ground = λ m g. (let x = parts m g in subst (Contains methods) (sym (ap method_at x.row_is)) (to_map method_of rows x.row ((order.same x.row).0 (at_contains sorted m x.row x.row_is))));
+    ground = λ m g. (let x = parts m g in subst (Contains methods) (sym (ap method_at x.row_is)) (Contains-map method_of rows x.row ((order.same x.row).0 (at_contains sorted m x.row x.row_is))));
     every = λ g k.
         let (r, i, e) = map_to method_of rows g k in
         let (m, f) = place sorted r ((order.same r).1 i) in
@@ -232,7 +232,7 @@ module _ (c : Compiled) (soundly : IsSoundlyCompiled c) (tasks actions rows sort
     its_edges = record {
       all = λ d. (
         λ k. (let (e, i, h) = map_to edge edges d k in subst (Edges.IsEdge N IsBefore (top_work c)) h (edge_there e ((are.all e).0 i))),
-        λ i. (let (e, j, h) = edge_back d i in subst (Contains (map edge edges)) h (to_map edge edges e ((are.all e).1 j))),
+        λ i. (let (e, j, h) = edge_back d i in subst (Contains (map edge edges)) h (Contains-map edge edges e ((are.all e).1 j))),
       );
       in_order = λ before rest d f q. (let (front, rear, x, y, z) = map_cut edge edges before (d ∷ f ∷ rest) q in next front rear rest d f x z);
     }
@@ -351,7 +351,7 @@ module _ (c : Compiled) (soundly : IsSoundlyCompiled c) (tasks actions rows sort
         let f = ap B.group (work_is u y z) in (
           λ i.
               let (list, l, o) = (B.groups w y a b).0 (sym e ∙ i ∙ f) in
-              let same = one_list N IsBefore (top_work c) F list (map edge edges) l (its_edges edges are) in
+              let same = one_list N IsBefore (top_work c) F.decided list (map edge edges) l (its_edges edges are) in
               (edges, are, (group edges are (task t) (task u) w y (s, λ x. x) (z, λ x. x)).1 (subst (λ es. Walks.IsOneGroup (Edges.source N) (Edges.target N) es w y) same o)),
           λ i.
               let (list, l, o) = i in
@@ -362,8 +362,8 @@ module _ (c : Compiled) (soundly : IsSoundlyCompiled c) (tasks actions rows sort
     apart w g k h r s e = go ((B.groups w (N.head g) r h).0 e)
       where
         no_walk : (list walk : List (Edge GroundMethod)) → Walks.IsWalk (Edges.source N) (Edges.target N) list w walk (N.head g) → ⊥
-        no_walk list [] i = F.head_is_task g (subst IsPrimitive i s)
-        no_walk list (d ∷ walk) i = F.head_is_task d.method (subst IsPrimitive (sym i.0) s)
+        no_walk list [] i = F.decided.head_is_task g (subst IsPrimitive i s)
+        no_walk list (d ∷ walk) i = F.decided.head_is_task d.method (subst IsPrimitive (sym i.0) s)
 
         go : Edges.IsOneGroup N IsBefore (top_work c) w (N.head g) → ⊥
         go (list, l, o) = no_walk list o.0.0 o.0.1

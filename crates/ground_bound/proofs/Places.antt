@@ -5,7 +5,7 @@ use Rattle.std.specs.List.{AllZip}
 use Rattle.std.specs.Option.{option_map}
 use Rattle.std.proofs.lemmas.Option.{slice_get-map, same_Some}
 use Rattle.htn_base.specs.Different.{AreDifferent}
-use Rattle.ground_bound.proofs.FiniteBound.{at_contains}
+use Rattle.slot_machine.proofs.bound_laws.FiniteBound.{at_contains}
 
 pub map_get : {A B : Type 0} (f : A → B) (xs : List A) (i : ℕ) (y : B) → slice_get (map f xs) i ≡ Some y → (x : A) × (slice_get xs i ≡ Some x) × (f x ≡ y)
 map_get {A = A} {B = B} f xs i y e = go (slice_get xs i) refl

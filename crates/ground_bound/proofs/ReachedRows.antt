@@ -18,9 +18,9 @@ use Rattle.ground_bound.specs.GroundBound.{IsBefore}
 use Rattle.ground_bound.specs.NoGroundBound.{IsAtMost}
 use Rattle.ground_bound.specs.Search.{method_of, methods_of, task_of, action_of, works_of, AreTheReached}
 use Rattle.ground_bound.specs.Grounded.{IsListedTask, HaveListedTasks}
-use Rattle.ground_bound.proofs.Checks.{to_map}
-use Rattle.ground_bound.proofs.FiniteEdges.{keep, keep_to, to_keep, reached_or_not}
-use Rattle.ground_bound.proofs.GroundNetwork.{finite}
+use Rattle.slot_machine.proofs.OtherChildren.{Contains-map}
+use Rattle.slot_machine.proofs.bound_laws.FiniteEdges.{keep, keep_to, to_keep, reached_or_not}
+use Rattle.ground_bound.proofs.GroundNetwork.{decided}
 use Rattle.ground_bound.proofs.LeastLists.{reached_exactly}
 use Rattle.ground_bound.proofs.SameMethods.{reached_among}
 use Rattle.ground_bound.proofs.Searching.{place, task_apart}
@@ -33,7 +33,7 @@ module _ (c : Compiled) (soundly : IsSoundlyCompiled c) (tasks actions rows : Li
   HasReachedHead g = IsReachedBy c methods ((network c).head g)
 
   told : (g : GroundMethod) → Or_not (HasReachedHead g)
-  told g = reached_or_not (over c methods) IsBefore (top_work c) (finite soundly.problem soundly.checks c soundly.compiled methods the.reached.closed.ground) g
+  told g = reached_or_not (over c methods) IsBefore (top_work c) (decided soundly.problem soundly.checks c soundly.compiled methods the.reached.closed.ground) g
 
   kept : List GroundMethod
   kept = keep HasReachedHead told methods
@@ -72,7 +72,7 @@ module _ (c : Compiled) (soundly : IsSoundlyCompiled c) (tasks actions rows : Li
   pub have_listed_tasks : HaveListedTasks c tasks rows
   have_listed_tasks r k =
       let g = method_of r in
-      let in_methods : Contains methods g = to_map method_of rows r k in
+      let in_methods : Contains methods g = Contains-map method_of rows r k in
       let is = the.reached.closed.ground g in_methods in (
         is.plan,
         is.is,
@@ -86,7 +86,7 @@ module _ (c : Compiled) (soundly : IsSoundlyCompiled c) (tasks actions rows : Li
       )
 
   pub are_ground : (r : Row) → Contains rows r → IsGroundMethod c (method_of r)
-  are_ground r k = the.reached.closed.ground (method_of r) (to_map method_of rows r k)
+  are_ground r k = the.reached.closed.ground (method_of r) (Contains-map method_of rows r k)
 
   size : IsSize c (length (works_of tasks actions) + length methods)
   size = record {

@@ -17,16 +17,16 @@ use Rattle.plan_model.proofs.task_networks.Lists.{head_or_tail, Contains-here, C
 use Rattle.plan_model.proofs.plan_meaning.BoundParts.{there_at}
 use Rattle.plan_model.proofs.plan_meaning.Pairs.{map_to}
 use Rattle.plan_texts.specs.SoundlyCompiled.{IsSoundlyCompiled}
-use Rattle.ground_bound.specs.Finite.{IsFinite}
+use Rattle.slot_machine.specs.bound_laws.Finite.{IsDecided}
 use Rattle.ground_bound.specs.Reached.{over}
 use Rattle.ground_bound.specs.GroundBound.{AreBefore, IsBefore}
 use Rattle.ground_bound.specs.Search.{method_of, methods_of}
 use Rattle.ground_bound.specs.Grounded.{AreInOrder}
 use Rattle.ground_bound.specs.declared.in_order.MethodRow.{MethodRow}
 use Rattle.ground_bound.specs.MethodRows.{row}
-use Rattle.ground_bound.proofs.Checks.{to_map}
-use Rattle.ground_bound.proofs.FiniteBound.{at_contains}
-use Rattle.ground_bound.proofs.GroundNetwork.{finite}
+use Rattle.slot_machine.proofs.OtherChildren.{Contains-map}
+use Rattle.slot_machine.proofs.bound_laws.FiniteBound.{at_contains}
+use Rattle.ground_bound.proofs.GroundNetwork.{decided}
 use Rattle.ground_bound.proofs.Places.{map_get}
 
 abbrev compared : MethodRow → MethodRow → Ordering
@@ -73,12 +73,12 @@ module _ (rows : List Row) (made sorted : List MethodRow) (are : map row made �
   there : (r : Row) → Contains rows r → Contains (map row sorted) r
   there r k =
       let (x, i, e) = map_to row made r (subst (λ z. Contains z r) (sym are) k) in
-      subst (Contains (map row sorted)) e (to_map row sorted x (Contains-permutation made sorted x moved i))
+      subst (Contains (map row sorted)) e (Contains-map row sorted x (Contains-permutation made sorted x moved i))
 
   back : (r : Row) → Contains (map row sorted) r → Contains rows r
   back r k =
       let (x, i, e) = map_to row sorted r k in
-      subst (λ z. Contains z r) are (subst (Contains (map row made)) e (to_map row made x (Contains-permutation sorted made x (IsPermutation-sym made sorted moved) i)))
+      subst (λ z. Contains z r) are (subst (Contains (map row made)) e (Contains-map row made x (Contains-permutation sorted made x (IsPermutation-sym made sorted moved) i)))
 
   many : length (map row sorted) ≡ length rows
   many =
@@ -91,17 +91,17 @@ module _ (rows : List Row) (made sorted : List MethodRow) (are : map row made �
   all : List GroundMethod
   all = methods_of rows
 
-  F : IsFinite (over c all) IsBefore
+  D : IsDecided (over c all) IsBefore
   unfolding all
-  F = finite soundly.problem soundly.checks c soundly.compiled (methods_of rows)
+  D = decided soundly.problem soundly.checks c soundly.compiled (methods_of rows)
       (λ g k. (let (r, i, e) = map_to method_of rows g k in subst (IsGroundMethod c) e (ground r i)))
 
   in_all : (k : ℕ) (r : Row) → slice_get (map row sorted) k ≡ Some r → Contains all (method_of r)
   unfolding all
-  in_all k r e = to_map method_of rows r (back r (at_contains (map row sorted) k r e))
+  in_all k r e = Contains-map method_of rows r (back r (at_contains (map row sorted) k r e))
 
   next : (k : ℕ) (r s : Row) → slice_get (map row sorted) k ≡ Some r → slice_get (map row sorted) (suc k) ≡ Some s → IsBefore (method_of r) (method_of s)
-  next k r s e f = go (F.either (method_of r) (method_of s) (in_all k r e) (in_all (suc k) s f))
+  next k r s e f = go (D.either (method_of r) (method_of s) (in_all k r e) (in_all (suc k) s f))
     where
       go : IsBefore (method_of r) (method_of s) ⊎ ((method_of r ≡ method_of s) ⊎ IsBefore (method_of s) (method_of r)) → IsBefore (method_of r) (method_of s)
       go (inl b) = b
@@ -123,7 +123,7 @@ module _ (rows : List Row) (made sorted : List MethodRow) (are : map row made �
   rises (suc d) k l r s q e f =
       let (x, g) = there_at (map row sorted) (suc (d + k)) (let m = slice_get_within (map row sorted) l s f in omega arith) in
       let h : slice_get (map row sorted) (suc (suc (d + k))) ≡ Some s = subst (λ z. slice_get (map row sorted) z ≡ Some s) (let z : l ≡ suc (suc (d + k)) = omega arith in z) f in
-      F.before_then (method_of r) (method_of x) (method_of s) (rises d k (suc (d + k)) r x refl e g) (next (suc (d + k)) x s g h)
+      D.before_then (method_of r) (method_of x) (method_of s) (rises d k (suc (d + k)) r x refl e g) (next (suc (d + k)) x s g h)
 
   pub sorted_in_order : AreInOrder rows (map row sorted)
   sorted_in_order = record {
@@ -140,7 +140,7 @@ module _ (rows : List Row) (made sorted : List MethodRow) (are : map row made �
 -- of different ground methods the rows are different
 pub different_rows : (rows : List Row) → AreDifferent (map method_of rows) → AreDifferent rows
 different_rows [] d = tt
-different_rows (r ∷ rows) d = (λ k. d.0 (to_map method_of rows r k), different_rows rows d.1)
+different_rows (r ∷ rows) d = (λ k. d.0 (Contains-map method_of rows r k), different_rows rows d.1)
 
 take_next : {A : Type 0} (xs : List A) (k : ℕ) (x : A) → slice_get xs k ≡ Some x → take (suc k) xs ≡ take k xs ++ x ∷ []
 take_next [] k x e = absurd cc

@@ -7,7 +7,7 @@ use Rattle.plan_model.specs.declared.values.Compiled.{Compiled}
 use Rattle.plan_model.specs.plan_meaning.Network.{Work, action, check, task, GroundMethod, network}
 use Rattle.bound_calc.specs.stratifier.CycleWords.{written, task_by, method_word}
 use Rattle.bound_calc.specs.NoBound.{spaced}
-use Rattle.ground_bound.specs.NetworkEdges.{Edge, source, target}
+use Rattle.slot_machine.specs.bound_laws.NetworkEdges.{Edge, source, target}
 
 module _ (c : Compiled) where
   abbrev pub object_by : Option Object → List ℕ

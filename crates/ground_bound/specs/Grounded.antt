@@ -11,7 +11,7 @@ use Rattle.plan_model.specs.declared.schemas.MethodPlan.{MethodPlan}
 use Rattle.plan_model.specs.declared.values.Compiled.{Compiled}
 use Rattle.plan_model.specs.plan_meaning.Network.{Work, action, check, task, IsPrimitive, GroundMethod, child_of, decomposed, top_task}
 use Rattle.plan_model.specs.plan_meaning.Strata as Strata
-use Rattle.ground_bound.specs.NetworkEdges.{Edge}
+use Rattle.slot_machine.specs.bound_laws.NetworkEdges.{Edge}
 use Rattle.ground_bound.specs.GroundBound.{IsBefore}
 use Rattle.ground_bound.specs.Search.{method_of, task_of}
 

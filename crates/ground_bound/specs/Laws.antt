@@ -16,9 +16,9 @@ use Rattle.plan_model.specs.plan_meaning.Solution.{Allows, next, initial, IsExec
 use Rattle.ground_bound.specs.Restricted.{restricted, UsesOnly}
 use Rattle.ground_bound.specs.Reached.{IsNoCheck, IsReachedBy, AreClosed, AreReached, AreForced, IsSize}
 use Rattle.ground_bound.specs.MayBeTrue.{MayBeTrue, MayAdd}
-use Rattle.ground_bound.specs.NetworkEdges.{Edge, IsTailRecursive, IsNamedCycle, IsRanking}
-use Rattle.ground_bound.specs.NetworkBound.{IsBoundOf}
-use Rattle.ground_bound.specs.Finite.{IsFinite}
+use Rattle.slot_machine.specs.bound_laws.NetworkEdges.{Edge, IsTailRecursive, IsNamedCycle, IsRanking}
+use Rattle.slot_machine.specs.bound_laws.NetworkBound.{IsBoundOf}
+use Rattle.slot_machine.specs.bound_laws.Finite.{IsFinite}
 use Rattle.ground_bound.specs.GroundBound.{IsGroundBound, IsGroundTailRecursive, IsGroundCycle}
 
 -- no schedule of a front whose nodes are decomposed by these methods has more pending than a number that is large enough for these methods

@@ -3,7 +3,7 @@
 use Rattle.std.specs.Prelude.{ℕ, ◌<◌, ◌≤◌, ◌^◌, List, [], ◌∷◌, map}
 use Rattle.plan_model.specs.declared.values.Compiled.{Compiled}
 use Rattle.plan_model.specs.plan_meaning.Network.{GroundMethod}
-use Rattle.ground_bound.specs.NetworkEdges.{Edge}
+use Rattle.slot_machine.specs.bound_laws.NetworkEdges.{Edge}
 use Rattle.ground_bound.specs.Reached.{IsSize}
 use Rattle.ground_bound.specs.GroundBound.{IsGroundBound, IsGroundCycle}
 use Rattle.ground_bound.specs.declared.ground_error.GroundEdge.{GroundEdge}

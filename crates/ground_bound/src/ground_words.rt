@@ -3,7 +3,7 @@ ghost use Rattle.plan_model.specs.plan_meaning.Network.{task, network};
 ghost use Rattle.plan_model.specs.plan_meaning.Truth.{values_of};
 ghost use Rattle.bound_calc.specs.stratifier.CycleWords as names;
 ghost use Rattle.bound_calc.specs.NoBound.{spaced};
-ghost use Rattle.ground_bound.specs.NetworkEdges.{source, target};
+ghost use Rattle.slot_machine.specs.bound_laws.NetworkEdges.{source, target};
 ghost use Rattle.ground_bound.specs.NoGroundBound.{edge_of};
 ghost use Rattle.ground_bound.specs.GroundCycleWords as spec;
 

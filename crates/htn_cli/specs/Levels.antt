@@ -5,7 +5,7 @@ use Rattle.plan_model.specs.declared.values.Compiled.{Compiled}
 use Rattle.plan_model.specs.plan_meaning.Bound.{IsBound}
 use Rattle.plan_model.specs.plan_meaning.Network.{GroundMethod}
 use Rattle.bound_calc.specs.NoBound.{NamesCycle, spaced}
-use Rattle.ground_bound.specs.NetworkEdges.{Edge}
+use Rattle.slot_machine.specs.bound_laws.NetworkEdges.{Edge}
 use Rattle.ground_bound.specs.GroundBound.{IsGroundBound, IsGroundCycle}
 use Rattle.ground_bound.specs.NoGroundBound.{most_reached, IsAtMost, IsMoreThan}
 use Rattle.ground_bound.specs.GroundCycleWords.{ground_cycle_words}

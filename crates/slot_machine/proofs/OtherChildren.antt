@@ -85,7 +85,7 @@ pub map_cases : {A : Type 0} (f : A → ℕ) (xs : List A) (x : ℕ) → Contain
 map_cases f [] x c = absurd (not-in_empty x c)
 map_cases f (y ∷ xs) x c = elim (head_or_tail (f y) (map f xs) x c) [ inl e ↦ (y, (0, omega arith, refl), e) | inr d ↦ (let (z, k, e) = map_cases f xs x d in (z, Contains-later y xs z k, e)) ]
 
-pub Contains-map : {A : Type 0} (f : A → ℕ) (xs : List A) (x : A) → Contains xs x → Contains (map f xs) (f x)
+pub Contains-map : {A B : Type 0} (f : A → B) (xs : List A) (x : A) → Contains xs x → Contains (map f xs) (f x)
 Contains-map f [] x c = absurd (not-in_empty x c)
 Contains-map f (y ∷ xs) x c = elim (head_or_tail y xs x c) [ inl e ↦ subst (λ z. Contains (f y ∷ map f xs) (f z)) e (Contains-here (f y) (map f xs)) | inr d ↦ Contains-later (f y) (map f xs) (f x) (Contains-map f xs x d) ]
 

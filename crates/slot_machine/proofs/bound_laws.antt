@@ -3,18 +3,25 @@ pub mod Decided
 pub mod Reach
 pub mod Ranks
 pub mod NamedCycle
--- Over any network: groups, blocks, numbers.
+pub mod MappedWalks
+-- Over any network: blocks, numbers.
 pub mod Groups
 pub mod Blocks
 pub mod LastBlock
 pub mod FallingRanks
--- Of a compiled problem.
+-- Over any finite network: its edges, its cycles, its bound.
+pub mod Sorted
+pub mod FiniteEdges
+pub mod FiniteBound
+pub mod OneBound
+-- Of a compiled problem, whose network of schemas is finite.
 pub mod Lines
 pub mod ProblemEdges
-pub mod EdgesExist
+pub mod SchemaNetwork
+pub mod SchemaEdges
 pub mod OneCycle
 pub mod OrCycle
+pub mod EveryFront
 pub mod ProblemBound
 pub mod BoundedProblem
-pub mod EveryFront
 pub mod examples

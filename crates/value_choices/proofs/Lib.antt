@@ -7,6 +7,7 @@ pub mod Typed
 pub mod Beginning
 pub mod Comparing
 pub mod Known
+pub mod KnownAlone
 pub mod Settling
 pub mod Choosing
 pub mod TypedObjects

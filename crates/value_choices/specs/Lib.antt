@@ -1,5 +1,6 @@
 pub mod Choices
 pub mod Meeting
+pub mod Only
 pub mod Settled
 pub mod Ranges
 pub mod Worlds

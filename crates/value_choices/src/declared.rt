@@ -31,7 +31,7 @@ fn params_of(c: &Compiled, head: Head) -> Option<&[Param]>
 }
 
 /// Whether there is an object for each parameter, of its type.
-fn are_typed(world: &World<'_>, params: &[Param], objects: &[u32]) -> bool
+pub(crate) fn are_typed(world: &World<'_>, params: &[Param], objects: &[u32]) -> bool
     requires world { IsWorld world.now }
     ensures { IsTrue result ↔ AreTyped (InType world.now.types.now world.now.objects.now) params.now objects.now }
 {

@@ -3,8 +3,8 @@
 //!
 //! Stands on `plan_model` for types and objects, and on the world of `problem_index`. The contracts used above: `bind_terms` tells what
 //! is known of values when terms stand for objects, `Choice::first` chooses the first values, where there are some, `Choice::advance`
-//! goes on to the next ones, until there are no more, and `first_values` gives the first ones that meet constraints. `is_declared` tells
-//! whether objects are of the types that are declared for a task or an action.
+//! goes on to the next ones, until there are no more, and `first_values` gives the first ones that meet constraints. `only_values` gives
+//! the only ones where all are known. `is_declared` tells whether objects are of the types that are declared for a task or an action.
 #![tactic(auto)]
 
 mod binding;
@@ -12,6 +12,7 @@ mod choice;
 mod constraints;
 mod declared;
 mod meeting;
+mod only;
 mod range;
 
 pub use binding::bind_terms;
@@ -19,3 +20,4 @@ pub use choice::Choice;
 pub use constraints::meets;
 pub use declared::is_declared;
 pub use meeting::first_values;
+pub use only::{Only, only_values};

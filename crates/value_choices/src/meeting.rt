@@ -5,6 +5,7 @@ ghost use Rattle.value_choices.specs.Meeting as spec;
 
 use crate::choice::Choice;
 use crate::constraints::meets;
+use crate::only::{Only, only_values};
 use htn_base::{List, Memory};
 use plan_model::{Constraint, Param};
 use problem_index::World;
@@ -13,6 +14,31 @@ use std::alloc::Global;
 /// The first values that the parameters can have, the known ones where they are known, which meet the constraints. `None` exactly
 /// where there are none.
 pub fn first_values(
+    alloc: Global,
+    world: &World<'_>,
+    params: &[Param],
+    constraints: &[Constraint],
+    known: &[Option<u32>],
+) -> Result<Option<List<u32>>, Memory>
+    requires world { IsWorld world.now }
+    requires as_many { length known.now ≡ length params.now }
+    ensures first { IfOk result (spec.AreTheFirst (InType world.now.types.now world.now.objects.now) params.now constraints.now known.now) }
+{
+    match only_values(alloc, world, params, known)? {
+        Only::Values(values) => {
+            if meets(constraints, values.as_slice()) {
+                return Ok(Some(values));
+            }
+            drop(values);
+            Ok(None)
+        }
+        Only::Never => Ok(None),
+        Only::Open => first_of_many(alloc, world, params, constraints, known),
+    }
+}
+
+/// The same, where values are tried one after another.
+fn first_of_many(
     alloc: Global,
     world: &World<'_>,
     params: &[Param],

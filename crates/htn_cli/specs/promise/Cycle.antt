@@ -9,7 +9,7 @@ use Rattle.plan_model.specs.plan_meaning.Strata.{Edge}
 use Rattle.bound_calc.specs.NoBound.{spaced}
 use Rattle.bound_calc.specs.stratifier.NamedCycle.{IsNamed}
 use Rattle.bound_calc.specs.stratifier.CycleWords.{cycle_line}
-use Rattle.ground_bound.specs.NetworkEdges as ground
+use Rattle.slot_machine.specs.bound_laws.NetworkEdges as ground
 use Rattle.ground_bound.specs.GroundBound.{IsGroundCycle}
 use Rattle.ground_bound.specs.GroundCycleWords.{ground_cycle_words}
 use Rattle.command_words.specs.declared.level.Level.{Level}

@@ -20,7 +20,7 @@ use Rattle.schedules.specs.ruled.SlotRule.{SeesFree, PicksBy, Follows, IsFreeAft
 use Rattle.schedules.proofs.ruled.TakesPicked.{takes_push, none_taken}
 
 -- while p isn't taken, the same nodes are pending before and after the tree has grown at p
-pending_iff_grown : (N : Net) (tree tree' : Tree N) (p : Address) (w : N.Work) (l : Label N) → IsGrowth N tree tree' p w l
+pub pending_iff_grown : (N : Net) (tree tree' : Tree N) (p : Address) (w : N.Work) (l : Label N) → IsGrowth N tree tree' p w l
     → (taken : List Address) → (Contains taken p → ⊥) → (q : Address) → IsPending N tree taken q ↔ IsPending N tree' taken q
 pending_iff_grown N tree tree' p w l g taken n q = (
   pending_grows N tree tree' p w l g taken q,

@@ -1,5 +1,5 @@
 -- No schedule of any front of a compiled problem has more pending than the bound.
-use Rattle.std.proofs.Common.{ℕ, ◌≡◌, ◌<◌, List, [], ◌∷◌, ◌++◌, map, length, slice_get, Option, Some, None, refl, subst, arith}
+use Rattle.std.proofs.Common.{ℕ, ◌≡◌, ◌<◌, List, [], ◌∷◌, map, length, slice_get, Option, Some, None, refl, subst, arith}
 use Rattle.plan_model.specs.declared.options.Checks.{Checks}
 use Rattle.plan_model.specs.declared.networks.Head.{Head}
 use Rattle.plan_model.specs.declared.networks.Head.TheVariants.{Task, Action, Check}
@@ -28,6 +28,7 @@ use Rattle.plan_model.specs.plan_meaning.Truth.{values_of}
 use Rattle.plan_model.proofs.task_networks.Lists.{not-in_empty}
 use Rattle.slot_machine.specs.bound_laws.Laws.{EveryFrontIsWithinTheBound}
 use Rattle.slot_machine.proofs.bound_laws.Lines.{HasLines, has_lines}
+use Rattle.slot_machine.proofs.bound_laws.SchemaNetwork.{no_cut}
 
 -- what a ground work is an instance of
 abbrev schema : Work → Schema
@@ -65,14 +66,10 @@ module _ (c : Compiled) where
   }
 
 module _ (c : Compiled) (known : HasLines c) (n : ℕ) (bound : IsBound c n) where
-  abbrev HasBlocks : ℕ → Option MethodPlan → Type 0
+  abbrev pub HasBlocks : ℕ → Option MethodPlan → Type 0
   HasBlocks m o = (line : List ℕ) × IsLine (IsPairBy o) (length (schemas_by m o)) line × AreBlocks (IsPairBy o) line (bound.block m)
 
-  no_cut : (before rest : List ℕ) (i : ℕ) → [] ≡ before ++ i ∷ rest → ⊥
-  no_cut [] rest i e = cc
-  no_cut (x ∷ before) rest i e = cc
-
-  blocks : (m : ℕ) → HasBlocks m (slice_get c.methods m)
+  pub blocks : (m : ℕ) → HasBlocks m (slice_get c.methods m)
   blocks m = go (slice_get c.methods m) refl
     where
       go : (o : Option MethodPlan) → slice_get c.methods m ≡ o → (line : List ℕ) × IsLine (IsPairBy o) (length (schemas_by m o)) line × AreBlocks (IsPairBy o) line (bound.block m)

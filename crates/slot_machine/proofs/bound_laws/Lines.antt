@@ -11,14 +11,9 @@ use Rattle.plan_model.specs.plan_meaning.Schemas.{schema_of}
 use Rattle.plan_model.specs.plan_meaning.Compilation.{IsCompiled}
 use Rattle.plan_model.proofs.plan_meaning.MethodParts.{IsPairBy, schemas_by}
 use Rattle.plan_model.proofs.plan_meaning.CompiledNetworks.{plan_of}
-use Rattle.plan_model.proofs.plan_meaning.BoundParts.{AreWhole}
 
 abbrev pub HasLines : Compiled → Type 0
 HasLines c = (m : ℕ) (plan : MethodPlan) → slice_get c.methods m ≡ Some plan → IsLine (IsPairBy (Some plan)) (length (schemas_by m (Some plan))) plan.line
-
--- the line of a compiled method has all its children
-pub lines_are_whole : (h : Hddl) (mode : Checks) (c : Compiled) → IsCompiled h mode c → AreWhole c
-lines_are_whole h mode c compiled m plan e i l = let (s, k, is) = plan_of h mode (h.top ∷ h.methods) c.methods m plan compiled.methods e in is.line.whole i l
 
 pub has_lines : (h : Hddl) (mode : Checks) (c : Compiled) → IsCompiled h mode c → HasLines c
 has_lines h mode c compiled m plan e =

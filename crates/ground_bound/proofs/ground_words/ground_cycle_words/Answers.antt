@@ -2,7 +2,7 @@ use Rattle.std.proofs.Common.{◌≡◌, ◌++◌, codes, take_all, ap, sym, sub
 use Rattle.bound_calc.specs.stratifier.CycleWords.{method_word}
 use Rattle.bound_calc.specs.NoBound.{spaced}
 use Rattle.plan_model.specs.plan_meaning.Network.{network}
-use Rattle.ground_bound.specs.NetworkEdges.{source}
+use Rattle.slot_machine.specs.bound_laws.NetworkEdges.{source}
 use Rattle.ground_bound.specs.NoGroundBound.{edge_of}
 use Rattle.ground_bound.specs.GroundCycleWords.{ground_task_word}
 use Rattle.ground_bound.specs.declared.ground_error.GroundEdge.{GroundEdge}

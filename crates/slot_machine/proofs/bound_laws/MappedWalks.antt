@@ -4,7 +4,7 @@ use Rattle.std.proofs.lemmas.List.{length-map, map-append}
 use Rattle.std.proofs.lemmas.List.Elements.{Contains-append_left}
 use Rattle.plan_model.specs.task_networks.Strata.{IsWalk, Reaches, IsOneGroup, IsBadCycle, IsTailRecursive, IsNamedCycle, ComesFirst}
 use Rattle.plan_model.proofs.plan_meaning.Pairs.{map_to}
-use Rattle.ground_bound.proofs.Checks.{to_map}
+use Rattle.slot_machine.proofs.OtherChildren.{Contains-map}
 
 -- a cut of the images is one of the list
 pub map_cut : {A B : Type 0} (f : A → B) (xs : List A) (ys zs : List B) → map f xs ≡ ys ++ zs
@@ -27,7 +27,7 @@ module _ {T U E D : Type 0} (s t : E → T) (s' t' : D → U) (f : E → D) (edg
   walk_there x y v w [] a b e = (one x y v w a b).0 e
   walk_there x y v w (e ∷ walk) a b (i, c, r) = (
     (one (s e) x (s' (f e)) v (sources e c) a).0 i,
-    to_map f edges e c,
+    Contains-map f edges e c,
     walk_there (t e) y (t' (f e)) w walk (targets e c) b r,
   )
 
@@ -65,13 +65,13 @@ module _ {T U E D : Type 0} (s t : E → T) (s' t' : D → U) (f : E → D) (edg
     before = map f h.before;
     after = map f h.after;
     parts = ap (map f) h.parts ∙ map-append f h.before (h.edge ∷ h.after);
-    later = to_map f h.after h.other_edge h.later;
+    later = Contains-map f h.after h.other_edge h.later;
   }
 
   module _ (Bad : E → Type 0) (Bad' : D → Type 0) (bad : (e : E) → Contains edges e → Bad e ↔ Bad' (f e)) where
     cycle_there : (e : E) (walk : List E) → IsBadCycle s t edges Bad e walk → IsBadCycle s' t' images Bad' (f e) (map f walk)
     cycle_there e walk (c, b, w) = (
-      to_map f edges e c,
+      Contains-map f edges e c,
       (bad e c).0 b,
       walk_there (t e) (s e) (t' (f e)) (s' (f e)) walk (targets e c) (sources e c) w,
     )

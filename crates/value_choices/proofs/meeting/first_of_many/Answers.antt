@@ -3,7 +3,7 @@ use Rattle.std.proofs.lemmas.Bool.{true≢false}
 use Rattle.plan_model.specs.Typing.{InType}
 use Rattle.value_choices.specs.Meeting.{AreMet}
 use Rattle.value_choices.proofs.Choosing.{coming_next, never}
-use Rattle.value_choices.proofs.meeting.first_values.Goals as goal
+use Rattle.value_choices.proofs.meeting.first_of_many.Goals as goal
 
 pub returns-then-not-advance : goal.returns-then-not-advance
 returns-then-not-advance c = record {

@@ -1,0 +1,12 @@
+pub mod Heights
+pub mod FrontsShrink
+pub mod StackTells
+pub mod StackPicks
+pub mod StackFits
+pub mod StackRuns
+pub mod OneSchedule
+pub mod SomeSchedule
+pub mod StackPlans
+pub mod CellRows
+pub mod PendingCells
+pub mod examples
