@@ -4,8 +4,6 @@ pub mod Places
 pub mod Asked
 pub mod LiveAlong
 pub mod KeptNodes
-pub mod RenamedTrees
-pub mod RenamedRuns
 pub mod PrunedPlaces
 pub mod PrunedMethods
 pub mod PrunedNetwork

@@ -21,7 +21,7 @@ use Rattle.plan_model.proofs.plan_meaning.Pairs.{map_to}
 use Rattle.live_parts.specs.Live.{Parts, TypeOf}
 use Rattle.live_parts.specs.Kept.{Kept, IsReached, below_top, below, IsNumberOf, AreKept, IsNumbered}
 use Rattle.live_parts.specs.Pruned.{renamed_head, renamed_child, pruned}
-use Rattle.live_parts.specs.Renamed.{AreSame, IsRenaming}
+use Rattle.renamed_networks.specs.Renamed.{AreSame, IsRenaming}
 use Rattle.live_parts.specs.SameSchemas.{StandsFor, all_tasks, all_methods, SameWork, SameMethod}
 use Rattle.live_parts.proofs.Places.{to_map}
 use Rattle.live_parts.proofs.Asked.{child_is_subtask}

@@ -1,7 +1,6 @@
 pub mod Live
 pub mod Kept
 pub mod Pruned
-pub mod Renamed
 pub mod SameSchemas
 pub mod Laws
 pub mod PrunedSound

@@ -6,7 +6,7 @@ use Rattle.plan_model.specs.declared.values.Compiled.{Compiled}
 use Rattle.plan_model.specs.task_networks.Tree.{Tree}
 use Rattle.plan_model.specs.plan_meaning.Network.{Work, action, check, task, GroundMethod, network}
 use Rattle.live_parts.specs.Kept.{Kept}
-use Rattle.live_parts.specs.Renamed as Renamed
+use Rattle.renamed_networks.specs.Renamed as Renamed
 
 -- the new number stands for the old one, where these are the old ones that are kept
 abbrev pub StandsFor : List ℕ → ℕ → ℕ → Type 0

@@ -1,0 +1,14 @@
+pub mod Twins
+pub mod Meanings
+pub mod SpelledWords
+pub mod SamePlans
+pub mod AlikeTwins
+pub mod IdTwins
+pub mod MaySaid
+pub mod AlikeLive
+pub mod PrintedSaid
+pub mod SameTexts
+pub mod PrunedAlike
+pub mod OneOutcome
+pub mod PrunedTexts
+pub mod KeptPlans
