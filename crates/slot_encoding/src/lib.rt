@@ -6,7 +6,8 @@
 //! `plan_texts` and on the formulas on order pairs of `order_encoder`. The contracts used above: the encoded value of a sound problem,
 //! over a table that has all its words, can be printed (`encoded_is_printable`); each compiled problem has an encoded value
 //! (`every_problem_has_an_encoded_value`), and all of them have the same two texts
-//! (`encoded_texts::encoded_values_say_the_same`).
+//! (`encoded_texts::encoded_values_say_the_same`). Where a method takes the lowest free slots (`specs/FirstFree`) the same holds:
+//! the laws whose names end in `_by` take the choice.
 #![tactic(auto)]
 
 pub mod encoded_texts;

@@ -1,19 +1,20 @@
 -- First-free slots: what is printed where the top method has the unordered actions a, b and c.
-use Rattle.std.proofs.Common.{ℕ, ◌≡◌, false, List, [], ◌∷◌, Some, codes}
-use Rattle.std.specs.Prelude.{map}
+use Rattle.std.proofs.Common.{ℕ, zero, suc, ◌≡◌, false, List, [], ◌∷◌, Some, codes, refl, arith}
+use Rattle.std.specs.List.Sorted.{IsStrictlyIncreasing}
 use Rattle.text_forms.specs.Printing.{bytes}
+use Rattle.plan_model.specs.declared.options.Checks.{Checks}
 use Rattle.plan_model.specs.declared.options.Style.TheVariants.{Adl, Flat}
 use Rattle.plan_model.specs.declared.networks.Head.TheVariants.{Action}
 use Rattle.plan_model.specs.declared.schemas.MethodPlan.{MethodPlan}
 use Rattle.plan_model.specs.declared.values.Compiled.{Compiled}
+use Rattle.plan_model.specs.plan_meaning.Compilation.{IsCompiled}
+use Rattle.plan_model.proofs.plan_meaning.examples.PlanKinds.{plain}
 use Rattle.plan_model.proofs.plan_meaning.examples.RowValues.{child, always, nothing, problem, method_schema, method_plan, action_schema}
-use Rattle.plan_model.proofs.plan_meaning.examples.RowWords.{slot_1, slot_2, slot_3, slot_4}
 use Rattle.plan_texts.specs.Declared.{Declared}
 use Rattle.plan_texts.specs.Printed.{formula_part}
 use Rattle.plan_texts.proofs.Equations.{part-Or}
-use Rattle.slot_encoding.specs.EncodedNames.{encoded_predicates, encoded_types, encoded_objects}
-use Rattle.slot_encoding.specs.FirstFree.{less, lowest_slots, lowest_slot, less_facts, first_method}
-use Rattle.slot_encoding.proofs.examples.RowTexts.{digit_1, digit_2, printing, inside, fact_texts, predicate_texts, waits}
+use Rattle.slot_encoding.specs.FirstFree.{less, lowest_slot, less_facts, first_method}
+use Rattle.slot_encoding.proofs.examples.RowTexts.{printing, inside, fact_texts, predicate_texts, waits}
 
 abbrev names : List (List ℕ)
 names = codes "object" ∷ codes "d" ∷ codes "p" ∷ codes "htn_start" ∷ codes "a" ∷ codes "b" ∷ codes "c" ∷ []
@@ -26,6 +27,27 @@ abbrev row : Compiled
 row = record {
   hddl = problem names [] [] (action_schema 4 always nothing ∷ action_schema 5 always nothing ∷ action_schema 6 always nothing ∷ []) [] top.schema;
   methods = top ∷ [];
+}
+
+two_rise : IsStrictlyIncreasing (0 ∷ 1 ∷ [])
+two_rise zero l = omega arith
+two_rise (suc k) l = absurd (omega arith)
+
+row_is_compiled : (mode : Checks) → IsCompiled row.hddl mode row
+row_is_compiled mode = record {
+  hddl = refl;
+  methods = (
+    plain row.hddl mode top.schema top refl refl refl (record {
+      schema = refl;
+      up = tt;
+      line = refl;
+      heir = refl;
+      copiers = refl;
+      rising = two_rise;
+      guards = ([], refl, refl);
+    }),
+    tt,
+  );
 }
 
 abbrev words : List (List ℕ)
@@ -59,8 +81,8 @@ third : bytes (formula_part v (lowest_slot row words 4 Flat 4 3) (codes "htn_h" 
 third = simp (printing, part-Or)
 
 declares : predicate_texts v (less row words 4 Flat ∷ []) ≡ codes "(htn_less ?htn_x - htn_slot ?htn_h - htn_slot)" ∷ []
-declares = simp printing
+declares = refl
 
 -- three slots, each with each higher one
 facts : fact_texts v (less_facts row words 3 Adl) ≡ codes "(htn_less htn_s1 htn_s2)" ∷ codes "(htn_less htn_s1 htn_s3)" ∷ codes "(htn_less htn_s2 htn_s3)" ∷ []
-facts = simp printing
+facts = refl
