@@ -1,5 +1,5 @@
 -- The head with its actions is the encoded value, which is printable.
-use Rattle.std.proofs.Common.{ℕ, ◌≡◌, List, [], ◌∷◌, ◌++◌, Some, refl, ap, sym, subst, ◌∙◌}
+use Rattle.std.proofs.Common.{ℕ, ◌≡◌, List, ◌++◌, Some, refl, ap, sym, subst, ◌∙◌}
 use Rattle.plan_model.specs.declared.options.Slots.{Slots}
 use Rattle.plan_model.specs.declared.options.Slots.TheVariants.{Any, First}
 use Rattle.plan_model.specs.declared.options.Style.{Style}

@@ -1,6 +1,6 @@
 -- The printed problem by which free slots a method takes: what it has of each list, and what is not made with the rest.
 -- Source: this project's.
-use Rattle.std.specs.Prelude.{ℕ, Option, None, Some, List, [], ◌∷◌, ◌++◌, length, codes}
+use Rattle.std.specs.Prelude.{ℕ, Option, None, Some, List, [], ◌∷◌, ◌++◌, codes}
 use Rattle.plan_model.specs.declared.options.Slots.{Slots}
 use Rattle.plan_model.specs.declared.options.Slots.TheVariants.{Any, First}
 use Rattle.plan_model.specs.declared.options.Style.{Style}

@@ -1,9 +1,7 @@
-use Rattle.std.proofs.Common.{ℕ, ◌≡◌, ◌<◌, ◌+◌, ◌-◌, List, length, get_or, Some, ap, sym, ◌∙◌, arith}
+use Rattle.std.proofs.Common.{◌≡◌, ◌<◌, ◌+◌, ◌-◌, List, length, get_or, Some, ap, sym, ◌∙◌, arith}
 use Rattle.plan_model.specs.declared.options.Slots.{Slots}
 use Rattle.plan_model.specs.declared.options.Slots.TheVariants.{Any}
-use Rattle.plan_model.specs.declared.options.Style.{Style}
 use Rattle.plan_model.specs.declared.schemas.ActionSchema.{ActionSchema}
-use Rattle.plan_model.specs.declared.values.Compiled.{Compiled}
 use Rattle.slot_encoder.specs.Made as made
 use Rattle.slot_encoder.specs.Rules as rules
 use Rattle.slot_encoding.proofs.slot_declarations.CheckedMethods.{checks-count}

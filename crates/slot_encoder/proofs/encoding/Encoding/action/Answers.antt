@@ -1,8 +1,10 @@
 use Rattle.std.proofs.Common.{◌≡◌, Some, slice_get, arith}
 use Rattle.std.proofs.lemmas.Result.{IfOk-weaker}
+use Rattle.plan_model.specs.declared.options.Slots.{Slots}
 use Rattle.plan_model.specs.declared.options.Slots.TheVariants.{Any}
-use Rattle.slot_encoder.specs.Encodings.{all_actions, whole_in}
-use Rattle.slot_encoder.specs.Made as made
+use Rattle.slot_encoder.specs.Rules as rules
+use Rattle.slot_encoder.specs.Encodings.{whole_by}
+use Rattle.slot_encoder.specs.declared.split_action.SplitAction.{SplitAction}
 use Rattle.slot_encoder.proofs.ActionPlaces.{actions-length}
 use Rattle.slot_encoder.proofs.encoding.Encoding.action.Goals as goal
 
@@ -14,6 +16,5 @@ action_at-requires-clause-some c =
 pub returns : goal.returns
 returns c =
     let e = c.args.self.now in
-    record {
-      action = IfOk-weaker c.action_at.result (made.IsAction c.frame c.args.k) (λ a. slice_get (all_actions c.args.c.now e) c.args.k ≡ Some (whole_in c.args.c.now e a)) (λ a is. is e.rule) c.action_at.ensures;
-    }
+    let Is = λ (rule : Slots) (a : SplitAction). slice_get (rules.actions rule c.args.c.now e.names e.slots e.style) c.args.k ≡ Some (whole_by rule c.args.c.now e.names e.slots e.style a) in
+    record { action = IfOk-weaker c.action_at.result (λ a. (rule : Slots) → Is rule a) (Is e.rule) (λ a is. is e.rule) c.action_at.ensures }
