@@ -47,7 +47,7 @@ NOT_REACHED = 99
 top = pathlib.Path(__file__).resolve().parent.parent
 program = os.path.abspath(os.environ.get("HTN", top / "htn"))
 words = sys.argv[1:]
-outputs = {"translate": words[3:5], "make": words[2:4]}.get(words[0], [])
+outputs = {"translate": words[3:5], "make": words[2:4], "prune": words[3:5]}.get(words[0], [])
 
 
 def files():

@@ -1,5 +1,5 @@
 #!/usr/bin/env bash
-# Refuses each allocation of each command in turn, of the program as it is shipped: translate, bound, decode, encode, validate and make, over
+# Refuses each allocation of each command in turn, of the program as it is shipped: translate, bound, decode, encode, validate, prune and make, over
 # the smallest example, a tail-recursive problem and one with a free variable, whose texts are made here. bench/refused_memory.py says how it is
 # done, and what each run must leave. Wants ./htn, as examples/transport/run leaves it, or HTN, and a C compiler. Two lines for each run; ends
 # with 1 where one of them was answered otherwise. With a number it then lets each allocation up to that one of the test `want_of_memory` of
@@ -55,6 +55,7 @@ for example in smallest tail-recursive free-variable; do
     refused decode d p plan
     refused encode d p hplan
     refused validate pd pp plan
+    refused prune d p od op
 done
 cd "$work/smallest"
 refused make 1 od op

@@ -4,8 +4,8 @@ use Rattle.std.specs.Str.{bytes_eq}
 use Rattle.std.proofs.Math.Seq.{take-append_seam, drop-append_seam}
 use Rattle.command_words.specs.Names.{Word, names_in}
 use Rattle.command_words.specs.Bounds.{IsNumeral}
-use Rattle.command_words.specs.Forms.{Row, AreOptions, AreOf, translation_form, bound_form, decode_form, encode_form, validation_form, make_form}
-use Rattle.command_words.specs.Words.{TranslationRequest, BoundRequest, DecodeRequest, EncodeRequest, ValidationRequest, MakeRequest, Request, to_translate, to_bound, to_decode, to_encode, to_validate, to_make, AskBy, SayTranslation, SayBound, SayDecode, SayEncode, SayValidation, SayMake, AsksTranslation, AsksBound, AsksDecode, AsksEncode, AsksValidation, AsksMake, Asks, AreOfAForm}
+use Rattle.command_words.specs.Forms.{Row, AreOptions, AreOf, translation_form, bound_form, decode_form, encode_form, validation_form, make_form, prune_form}
+use Rattle.command_words.specs.Words.{TranslationRequest, BoundRequest, DecodeRequest, EncodeRequest, ValidationRequest, MakeRequest, PruneRequest, Request, to_translate, to_bound, to_decode, to_encode, to_validate, to_make, to_prune, AskBy, SayTranslation, SayBound, SayDecode, SayEncode, SayValidation, SayMake, SayPrune, AsksTranslation, AsksBound, AsksDecode, AsksEncode, AsksValidation, AsksMake, AsksPrune, Asks, AreOfAForm}
 
 -- one list behind a word, cut at one place
 module _ (form : Row) (words names options : List Word) (of : AreOf form words names options) where
@@ -98,9 +98,14 @@ one_make_said n o r s a b =
     let e : r.numeral ∷ r.printed_domain ∷ r.printed_problem ∷ [] ≡ s.numeral ∷ s.printed_domain ∷ s.printed_problem ∷ [] = sym a.words ∙ b.words in
     λ i. record { numeral = get_or (e i) 0 []; printed_domain = get_or (e i) 1 []; printed_problem = get_or (e i) 2 [] }
 
+one_prune_said : (n o : List Word) (r s : PruneRequest) → SayPrune n o r → SayPrune n o s → r ≡ s
+one_prune_said n o r s a b =
+    let e : names_in r.names ≡ names_in s.names = sym a.files ∙ b.files in
+    λ i. record { names = record { domain = get_or (e i) 0 []; problem = get_or (e i) 1 []; printed_domain = get_or (e i) 2 []; printed_problem = get_or (e i) 3 [] } }
+
 -- the place of what is asked for among the commands
 abbrev commands : List Word
-commands = translation_form.command ∷ bound_form.command ∷ decode_form.command ∷ encode_form.command ∷ validation_form.command ∷ make_form.command ∷ []
+commands = translation_form.command ∷ bound_form.command ∷ decode_form.command ∷ encode_form.command ∷ validation_form.command ∷ make_form.command ∷ prune_form.command ∷ []
 
 abbrev place : Request → ℕ
 place (to_translate r) = 0
@@ -109,6 +114,7 @@ place (to_decode r) = 2
 place (to_encode r) = 3
 place (to_validate r) = 4
 place (to_make r) = 5
+place (to_prune r) = 6
 
 abbrev first_place : List Word → Option ℕ
 first_place words = position (bytes_eq (get_or words 0 [])) commands
@@ -120,6 +126,7 @@ placed words (to_decode r) asks = ap first_place asks.2.spelled
 placed words (to_encode r) asks = ap first_place asks.2.spelled
 placed words (to_validate r) asks = ap first_place asks.2.spelled
 placed words (to_make r) asks = ap first_place asks.2.spelled
+placed words (to_prune r) asks = ap first_place asks.2.spelled
 
 pub one_request : (words : List Word) (r s : Request) → Asks words r → Asks words s → r ≡ s
 one_request words (to_translate r) (to_translate s) a b = ap to_translate (one_by _ SayTranslation one_translation_said words r s a b)
@@ -128,6 +135,7 @@ one_request words (to_decode r) (to_decode s) a b = ap to_decode (one_by _ SayDe
 one_request words (to_encode r) (to_encode s) a b = ap to_encode (one_by _ SayEncode one_encode_said words r s a b)
 one_request words (to_validate r) (to_validate s) a b = ap to_validate (one_by _ SayValidation one_validation_said words r s a b)
 one_request words (to_make r) (to_make s) a b = ap to_make (one_by _ SayMake one_make_said words r s a b)
+one_request words (to_prune r) (to_prune s) a b = ap to_prune (one_by _ SayPrune one_prune_said words r s a b)
 one_request words r s a b = let e : place r ≡ place s = one_some (place r) (place s) (placed words r a) (placed words s b) in absurd (omega (arith, e))
 
 -- a numeral that is asked for is one
@@ -143,13 +151,14 @@ encode_numeral_is words r asks = asks.3.slots
 -- words that ask for nothing
 pub no_form : (words : List Word) → ((r : TranslationRequest) → AsksTranslation words r → ⊥) → ((r : BoundRequest) → AsksBound words r → ⊥)
     → ((r : DecodeRequest) → AsksDecode words r → ⊥) → ((r : EncodeRequest) → AsksEncode words r → ⊥) → ((r : ValidationRequest) → AsksValidation words r → ⊥)
-    → ((r : MakeRequest) → AsksMake words r → ⊥) → AreOfAForm words → ⊥
-no_form words first second third fourth fifth sixth (to_translate r, asks) = first r asks
-no_form words first second third fourth fifth sixth (to_bound r, asks) = second r asks
-no_form words first second third fourth fifth sixth (to_decode r, asks) = third r asks
-no_form words first second third fourth fifth sixth (to_encode r, asks) = fourth r asks
-no_form words first second third fourth fifth sixth (to_validate r, asks) = fifth r asks
-no_form words first second third fourth fifth sixth (to_make r, asks) = sixth r asks
+    → ((r : PruneRequest) → AsksPrune words r → ⊥) → ((r : MakeRequest) → AsksMake words r → ⊥) → AreOfAForm words → ⊥
+no_form words first second third fourth fifth sixth last (to_translate r, asks) = first r asks
+no_form words first second third fourth fifth sixth last (to_bound r, asks) = second r asks
+no_form words first second third fourth fifth sixth last (to_decode r, asks) = third r asks
+no_form words first second third fourth fifth sixth last (to_encode r, asks) = fourth r asks
+no_form words first second third fourth fifth sixth last (to_validate r, asks) = fifth r asks
+no_form words first second third fourth fifth sixth last (to_prune r, asks) = sixth r asks
+no_form words first second third fourth fifth sixth last (to_make r, asks) = last r asks
 
 pub none_too : {X : Type 0} {P Q : Type 0} (o : Option X) → (P → Q) → IfNone o P → IfNone o Q
 none_too None f p = f p

@@ -10,9 +10,9 @@ use Rattle.std.proofs.Math.Seq.{drop-append_seam}
 use Rattle.std.proofs.lemmas.Slice.Eq.{bytes_eq-Decides}
 use Rattle.command_words.specs.Names.{Word, Names, AreApart}
 use Rattle.command_words.specs.Bounds.{IsNumeral, IsCount}
-use Rattle.command_words.specs.Forms.{Row, said, AreOptions, AreOf, translation_form, bound_form, decode_form, encode_form, validation_form, make_form}
+use Rattle.command_words.specs.Forms.{Row, said, AreOptions, AreOf, translation_form, bound_form, decode_form, encode_form, validation_form, make_form, prune_form}
 use Rattle.command_words.specs.Options.{AreSlots, slots_said, style_said, checks_said, level_said, IsComputed}
-use Rattle.command_words.specs.Words.{TranslationRequest, BoundRequest, DecodeRequest, EncodeRequest, ValidationRequest, MakeRequest, to_translate, to_bound, to_decode, to_encode, to_validate, to_make, AskBy, SayTranslation, SayBound, SayDecode, SayEncode, SayValidation, SayMake, AsksTranslation, AsksBound, AsksDecode, AsksEncode, AsksValidation, AsksMake, AreOfAForm}
+use Rattle.command_words.specs.Words.{TranslationRequest, BoundRequest, DecodeRequest, EncodeRequest, ValidationRequest, MakeRequest, PruneRequest, to_translate, to_bound, to_decode, to_encode, to_validate, to_make, to_prune, AskBy, SayTranslation, SayBound, SayDecode, SayEncode, SayValidation, SayMake, SayPrune, AsksTranslation, AsksBound, AsksDecode, AsksEncode, AsksValidation, AsksMake, AsksPrune, AreOfAForm}
 use Rattle.command_words.proofs.Said.{among_told}
 use Rattle.command_words.proofs.Requests.{not_said, no_form}
 
@@ -260,6 +260,23 @@ module _ (options : List Word) where
   make_told (k ∷ d ∷ p ∷ []) = make_of_three k d p
   make_told (k ∷ d ∷ p ∷ x ∷ names) = inr (not_words (k ∷ d ∷ p ∷ x ∷ names) (λ e. omega (arith, e)))
 
+  prune_of_four : (n : Names) → SaysTold SayPrune (n.domain ∷ n.problem ∷ n.printed_domain ∷ n.printed_problem ∷ []) options
+  prune_of_four n = elim (apart_told n) [ inl h ↦ inl (record { names = n }, record { files = refl; apart = h }) | inr m ↦ inr (λ r a. m (subst AreApart (same r a) a.apart)) ]
+    where
+      same : (r : PruneRequest) → SayPrune (n.domain ∷ n.problem ∷ n.printed_domain ∷ n.printed_problem ∷ []) options r → r.names ≡ n
+      same r s = let e = sym s.files in λ i. record { domain = get_or (e i) 0 []; problem = get_or (e i) 1 []; printed_domain = get_or (e i) 2 []; printed_problem = get_or (e i) 3 [] }
+
+  not_four_files : (names : List Word) → (length names ≡ 4 → ⊥) → (r : PruneRequest) → SayPrune names options r → ⊥
+  not_four_files names l r a = l (ap length a.files)
+
+  prune_told : (names : List Word) → SaysTold SayPrune names options
+  prune_told [] = inr (not_four_files [] (λ e. omega (arith, e)))
+  prune_told (d ∷ []) = inr (not_four_files (d ∷ []) (λ e. omega (arith, e)))
+  prune_told (d ∷ p ∷ []) = inr (not_four_files (d ∷ p ∷ []) (λ e. omega (arith, e)))
+  prune_told (d ∷ p ∷ e ∷ []) = inr (not_four_files (d ∷ p ∷ e ∷ []) (λ k. omega (arith, k)))
+  prune_told (d ∷ p ∷ e ∷ q ∷ []) = prune_of_four (record { domain = d; problem = p; printed_domain = e; printed_problem = q })
+  prune_told (d ∷ p ∷ e ∷ q ∷ x ∷ names) = inr (not_four_files (d ∷ p ∷ e ∷ q ∷ x ∷ names) (λ k. omega (arith, k)))
+
 abbrev pub FormTold : List Word → Type 0
 FormTold words = AreOfAForm words ⊎ (AreOfAForm words → ⊥)
 
@@ -267,18 +284,21 @@ pub form_told : (words : List Word) → FormTold words
 form_told words =
     go (told_by translation_form SayTranslation (λ n o. translation_told o n) words) (told_by bound_form SayBound (λ n o. bound_told o n) words)
     (told_by decode_form SayDecode (λ n o. decode_told o n) words) (told_by encode_form SayEncode (λ n o. encode_told o n) words)
-    (told_by validation_form SayValidation (λ n o. validation_told o n) words) (told_by make_form SayMake (λ n o. make_told o n) words)
+    (told_by validation_form SayValidation (λ n o. validation_told o n) words) (told_by prune_form SayPrune (λ n o. prune_told o n) words)
+    (told_by make_form SayMake (λ n o. make_told o n) words)
   where
     go : ((r : TranslationRequest) × AsksTranslation words r) ⊎ ((r : TranslationRequest) → AsksTranslation words r → ⊥)
         → ((r : BoundRequest) × AsksBound words r) ⊎ ((r : BoundRequest) → AsksBound words r → ⊥)
         → ((r : DecodeRequest) × AsksDecode words r) ⊎ ((r : DecodeRequest) → AsksDecode words r → ⊥)
         → ((r : EncodeRequest) × AsksEncode words r) ⊎ ((r : EncodeRequest) → AsksEncode words r → ⊥)
         → ((r : ValidationRequest) × AsksValidation words r) ⊎ ((r : ValidationRequest) → AsksValidation words r → ⊥)
+        → ((r : PruneRequest) × AsksPrune words r) ⊎ ((r : PruneRequest) → AsksPrune words r → ⊥)
         → ((r : MakeRequest) × AsksMake words r) ⊎ ((r : MakeRequest) → AsksMake words r → ⊥) → FormTold words
-    go (inl (r, a)) b c d e f = inl (to_translate r, a)
-    go (inr n) (inl (r, a)) c d e f = inl (to_bound r, a)
-    go (inr n) (inr m) (inl (r, a)) d e f = inl (to_decode r, a)
-    go (inr n) (inr m) (inr k) (inl (r, a)) e f = inl (to_encode r, a)
-    go (inr n) (inr m) (inr k) (inr l) (inl (r, a)) f = inl (to_validate r, a)
-    go (inr n) (inr m) (inr k) (inr l) (inr j) (inl (r, a)) = inl (to_make r, a)
-    go (inr n) (inr m) (inr k) (inr l) (inr j) (inr i) = inr (no_form words n m k l j i)
+    go (inl (r, a)) b c d e f g = inl (to_translate r, a)
+    go (inr n) (inl (r, a)) c d e f g = inl (to_bound r, a)
+    go (inr n) (inr m) (inl (r, a)) d e f g = inl (to_decode r, a)
+    go (inr n) (inr m) (inr k) (inl (r, a)) e f g = inl (to_encode r, a)
+    go (inr n) (inr m) (inr k) (inr l) (inl (r, a)) f g = inl (to_validate r, a)
+    go (inr n) (inr m) (inr k) (inr l) (inr j) (inl (r, a)) g = inl (to_prune r, a)
+    go (inr n) (inr m) (inr k) (inr l) (inr j) (inr i) (inl (r, a)) = inl (to_make r, a)
+    go (inr n) (inr m) (inr k) (inr l) (inr j) (inr i) (inr h) = inr (no_form words n m k l j i h)

@@ -35,6 +35,9 @@ validation_form = record { command = codes "validate"; names = 3; options = [] }
 abbrev pub make_form : Row
 make_form = record { command = codes "make"; names = 3; options = [] }
 
+abbrev pub prune_form : Row
+prune_form = record { command = codes "prune"; names = 4; options = [] }
+
 -- the value that words give an option
 abbrev pub said : Word → List Word → Option Word
 said option [] = None

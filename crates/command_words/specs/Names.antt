@@ -9,7 +9,7 @@ Word = List ℕ
 abbrev pub words_of : {Z : Type 0} → List (String Z) → List Word
 words_of texts = map string_bytes texts
 
--- the files of a translation: two that are read, and two that are written
+-- the files of a translation or of a pruning: two that are read, and two that are written
 pub record Names : Type 0 where
   pub domain : Word
   pub problem : Word

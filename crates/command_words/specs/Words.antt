@@ -10,13 +10,14 @@ use Rattle.command_words.specs.declared.asking.Decoding.{Decoding}
 use Rattle.command_words.specs.declared.asking.Encoding.{Encoding}
 use Rattle.command_words.specs.declared.asking.Validation.{Validation}
 use Rattle.command_words.specs.declared.asking.Making.{Making}
+use Rattle.command_words.specs.declared.asking.Pruning.{Pruning}
 use Rattle.command_words.specs.declared.asking.Asked.{Asked}
 use Rattle.command_words.specs.declared.asking.Asked.TheVariants as asked
 use Rattle.command_words.specs.declared.commands.Command.{Command}
-use Rattle.command_words.specs.declared.commands.Command.TheVariants.{Translate, Bound, Decode, Encode, Validate, Make}
+use Rattle.command_words.specs.declared.commands.Command.TheVariants.{Translate, Bound, Decode, Encode, Validate, Make, Prune}
 use Rattle.command_words.specs.Names.{Word, Names, names_of, names_in, AreApart}
 use Rattle.command_words.specs.Bounds.{IsCount}
-use Rattle.command_words.specs.Forms.{Row, AreOf, translation_form, bound_form, decode_form, encode_form, validation_form, make_form}
+use Rattle.command_words.specs.Forms.{Row, AreOf, translation_form, bound_form, decode_form, encode_form, validation_form, make_form, prune_form}
 use Rattle.command_words.specs.Options.{AreSlots, slots_said, style_said, checks_said, level_said, IsComputed}
 
 -- a translation that is asked for: its files, the numeral of its slots where one is given, the level of a bound that is computed, its
@@ -66,6 +67,10 @@ pub record MakeRequest : Type 0 where
   pub printed_domain : Word
   pub printed_problem : Word
 
+-- a pruning that is asked for: its files
+pub record PruneRequest : Type 0 where
+  pub names : Names
+
 pub data Request : Type 0 where
   to_translate : TranslationRequest → Request
   to_bound : BoundRequest → Request
@@ -73,6 +78,7 @@ pub data Request : Type 0 where
   to_encode : EncodeRequest → Request
   to_validate : ValidationRequest → Request
   to_make : MakeRequest → Request
+  to_prune : PruneRequest → Request
 
 -- words of a form, of which the names and the options say a request
 abbrev pub AskBy : {R : Type 0} → Row → (List Word → List Word → R → Type 0) → List Word → R → Type 0
@@ -117,6 +123,10 @@ pub record SayMake (names options : List Word) (request : MakeRequest) : Type 0 
   pub count : IsCount request.numeral
   pub apart : request.printed_domain ≢ request.printed_problem
 
+pub record SayPrune (names options : List Word) (request : PruneRequest) : Type 0 where
+  pub files : names ≡ names_in request.names
+  pub apart : AreApart request.names
+
 -- the words ask for this
 abbrev pub AsksTranslation : List Word → TranslationRequest → Type 0
 AsksTranslation = AskBy translation_form SayTranslation
@@ -136,6 +146,9 @@ AsksValidation = AskBy validation_form SayValidation
 abbrev pub AsksMake : List Word → MakeRequest → Type 0
 AsksMake = AskBy make_form SayMake
 
+abbrev pub AsksPrune : List Word → PruneRequest → Type 0
+AsksPrune = AskBy prune_form SayPrune
+
 abbrev pub Asks : List Word → Request → Type 0
 Asks words (to_translate request) = AsksTranslation words request
 Asks words (to_bound request) = AsksBound words request
@@ -143,6 +156,7 @@ Asks words (to_decode request) = AsksDecode words request
 Asks words (to_encode request) = AsksEncode words request
 Asks words (to_validate request) = AsksValidation words request
 Asks words (to_make request) = AsksMake words request
+Asks words (to_prune request) = AsksPrune words request
 
 -- the words are of a command's form
 abbrev pub AreOfAForm : List Word → Type 0
@@ -172,6 +186,9 @@ validation_of v = record { domain = v.pd.now; problem = v.pp.now; plan = v.plan.
 abbrev pub make_of : Making → MakeRequest
 make_of m = record { numeral = m.numeral.now; printed_domain = m.od.now; printed_problem = m.op.now }
 
+abbrev pub prune_of : Pruning → PruneRequest
+prune_of p = record { names = names_of p.names }
+
 abbrev pub request_of : Asked → Request
 request_of (asked.Translation t) = to_translate (translation_of t)
 request_of (asked.Bound b) = to_bound (bound_of b)
@@ -179,6 +196,7 @@ request_of (asked.Decoding d) = to_decode (decode_of d)
 request_of (asked.Encoding e) = to_encode (encode_of e)
 request_of (asked.Validation v) = to_validate (validation_of v)
 request_of (asked.Making m) = to_make (make_of m)
+request_of (asked.Pruning p) = to_prune (prune_of p)
 
 -- the words ask for this command
 abbrev pub AskFor : List Word → Command → Type 0
@@ -199,3 +217,5 @@ AskFor words (Validate pd pp plan) = AsksValidation words record { domain = pd.n
 AskFor words (Make k od op) =
     (numeral : Word) × (k ≡ number_of numeral)
     × AsksMake words record { numeral = numeral; printed_domain = od.now; printed_problem = op.now }
+AskFor words (Prune d p od op) =
+    AsksPrune words record { names = record { domain = d.now; problem = p.now; printed_domain = od.now; printed_problem = op.now } }

@@ -11,6 +11,7 @@ pub enum Asked<'a> {
     Encoding(Encoding<'a>),
     Validation(Validation<'a>),
     Making(Making<'a>),
+    Pruning(Pruning<'a>),
 }
 
 /// A translation that is asked for: its files, the numeral of its slots where one is given, the level of
@@ -70,4 +71,10 @@ pub struct Making<'a> {
     pub numeral: &'a str,
     pub od: &'a str,
     pub op: &'a str,
+}
+
+/// A pruning that is asked for: its files.
+#[derive(Clone, Copy)]
+pub struct Pruning<'a> {
+    pub names: Named<'a>,
 }

@@ -52,4 +52,11 @@ pub enum Command<'a> {
         od: &'a str,
         op: &'a str,
     },
+    /// Read the HDDL domain `d` and problem `p`, and write the HDDL domain `od` and problem `op` without what no solution uses.
+    Prune {
+        d: &'a str,
+        p: &'a str,
+        od: &'a str,
+        op: &'a str,
+    },
 }

@@ -49,6 +49,12 @@ pub(crate) const MAKING: Form<'static> = Form {
     options: &[],
 };
 
+pub(crate) const PRUNING: Form<'static> = Form {
+    command: "prune",
+    names: 4,
+    options: &[],
+};
+
 /// The words of a form, behind that of the command.
 #[derive(Clone, Copy)]
 pub(crate) struct Parts<'a> {

@@ -13,7 +13,7 @@ mod names;
 mod options;
 mod words;
 
-pub use asking::{Asked, Bounding, Decoding, Encoding, Making, Translation, Validation};
+pub use asking::{Asked, Bounding, Decoding, Encoding, Making, Pruning, Translation, Validation};
 pub use bounds::{Bound, bound_of, comes_to, count_of};
 pub use commands::Command;
 pub use level::Level;

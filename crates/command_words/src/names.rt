@@ -1,7 +1,7 @@
 ghost use Rattle.std.specs.Prelude.{◌↔◌, IsTrue};
 ghost use Rattle.command_words.specs.Names.{AreApart, names_of};
 
-/// The files of a translation, by their words: `d` and `p` are read, `od` and `op` are written.
+/// The files of a translation or of a pruning, by their words: `d` and `p` are read, `od` and `op` are written.
 #[derive(Clone, Copy)]
 pub struct Named<'a> {
     pub d: &'a str,

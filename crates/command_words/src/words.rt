@@ -1,12 +1,14 @@
 ghost use Rattle.std.specs.Prelude.{◌≢◌, ◌↔◌, IsTrue, IfSome, IfNone};
 ghost use Rattle.command_words.specs.Bounds.{IsCount};
 ghost use Rattle.command_words.specs.Names.{words_of};
-ghost use Rattle.command_words.specs.Words.{AreOfAForm, AskFor, Asks, AsksBound, AsksDecode, AsksEncode, AsksMake, AsksTranslation, AsksValidation, BoundRequest, DecodeRequest, EncodeRequest, MakeRequest, SayBound, SayDecode, SayEncode, SayMake, SayTranslation, SayValidation, TranslationRequest, ValidationRequest, bound_of, decode_of, encode_of, make_of, request_of, translation_of, validation_of};
+ghost use Rattle.command_words.specs.Words.{AreOfAForm, AskFor, Asks, AsksBound, AsksDecode, AsksEncode, AsksMake, AsksPrune, AsksTranslation, AsksValidation, BoundRequest, DecodeRequest, EncodeRequest, MakeRequest, PruneRequest, SayBound, SayDecode, SayEncode, SayMake, SayPrune, SayTranslation, SayValidation, TranslationRequest, ValidationRequest, bound_of, decode_of, encode_of, make_of, prune_of, request_of, translation_of, validation_of};
 
-use crate::asking::{Asked, Bounding, Decoding, Encoding, Making, Translation, Validation};
+use crate::asking::{
+    Asked, Bounding, Decoding, Encoding, Making, Pruning, Translation, Validation,
+};
 use crate::bounds::{count_of, is_count};
 use crate::commands::Command;
-use crate::forms::{BOUND, DECODING, ENCODING, MAKING, TRANSLATION, VALIDATION, parts_of};
+use crate::forms::{BOUND, DECODING, ENCODING, MAKING, PRUNING, TRANSLATION, VALIDATION, parts_of};
 use crate::names::{Named, are_apart};
 use crate::options::{are_slots, checks, is_computed, level, slots, style};
 
@@ -17,7 +19,7 @@ use crate::options::{are_slots, checks, is_computed, level, slots, style};
 /// `--checks leaf|atonce`, where OD and OP differ and neither is D or P, `bound D P` with the options `--level lifted|ground`
 /// and `--checks leaf|atonce`, `decode D P PLAN` with the options `--bound N` or `--level lifted|ground`, and
 /// `--checks leaf|atonce`, `encode D P HPLAN` with the options `--bound N` and `--checks leaf|atonce`, `validate PD PP PLAN`,
-/// and `make K OD OP`, where OD and OP differ. Options come in any order and may be left out: the level is then `lifted`, the
+/// `make K OD OP`, where OD and OP differ, and `prune D P OD OP`, whose names are apart as those of `translate`. Options come in any order and may be left out: the level is then `lifted`, the
 /// style `adl`, and the checks are `leaf`.
 pub fn command(words: &[String]) -> Option<Command<'_>>
     ensures asked { IfSome result (AskFor (words_of words.now)) }
@@ -65,6 +67,12 @@ pub fn command(words: &[String]) -> Option<Command<'_>>
             od: asked.od,
             op: asked.op,
         }),
+        Asked::Pruning(asked) => Some(Command::Prune {
+            d: asked.names.d,
+            p: asked.names.p,
+            od: asked.names.od,
+            op: asked.names.op,
+        }),
     }
 }
 
@@ -88,6 +96,9 @@ pub fn asked(words: &[String]) -> Option<Asked<'_>>
     }
     if let Some(asked) = asked_validation(words) {
         return Some(Asked::Validation(asked));
+    }
+    if let Some(asked) = asked_pruning(words) {
+        return Some(Asked::Pruning(asked));
     }
     let asked = asked_making(words)?;
     Some(Asked::Making(asked))
@@ -277,4 +288,34 @@ fn is_well_said(making: &Making<'_>) -> bool
         × (making.now.od.now ≢ making.now.op.now)) }
 {
     is_count(making.numeral) && making.od != making.op
+}
+
+fn asked_pruning(words: &[String]) -> Option<Pruning<'_>>
+    ensures asked { IfSome result (λ asked. AsksPrune (words_of words.now) (prune_of asked)) }
+    ensures other { IfNone result ((request : PruneRequest) →
+        AsksPrune (words_of words.now) request → ⊥) }
+{
+    let parts = parts_of(words, &PRUNING)?;
+    pruning(parts.names, parts.options)
+}
+
+fn pruning<'a>(names: &'a [String], options: &'a [String]) -> Option<Pruning<'a>>
+    ensures said { IfSome result (λ asked.
+        SayPrune (words_of names.now) (words_of options.now) (prune_of asked)) }
+    ensures other { IfNone result ((request : PruneRequest) →
+        SayPrune (words_of names.now) (words_of options.now) request → ⊥) }
+{
+    let [d, p, od, op] = names else {
+        return None;
+    };
+    let names = Named {
+        d: d.as_str(),
+        p: p.as_str(),
+        od: od.as_str(),
+        op: op.as_str(),
+    };
+    if !are_apart(&names) {
+        return None;
+    }
+    Some(Pruning { names })
 }

@@ -1,6 +1,8 @@
 //! The commands, each over the smallest problem.
 use crate::made::{MADE_DOMAIN, MADE_PROBLEM};
-use crate::texts::{DOMAIN, PLAN, PRINTED_DOMAIN, PRINTED_PROBLEM, PROBLEM, TREE};
+use crate::texts::{
+    DOMAIN, PLAN, PRINTED_DOMAIN, PRINTED_PROBLEM, PROBLEM, PRUNED_DOMAIN, PRUNED_PROBLEM, TREE,
+};
 
 /// What a text is read as.
 #[derive(Clone, Copy)]
@@ -117,6 +119,12 @@ pub(crate) const COMMANDS: &[Command] = &[
         reads: &[PD, PP, STEPS],
         writes: &[],
         tells: "valid\n",
+    },
+    Command {
+        words: &["prune", "d.hddl", "p.hddl", "od", "op"],
+        reads: &[D, P],
+        writes: &[("od", PRUNED_DOMAIN), ("op", PRUNED_PROBLEM)],
+        tells: "tasks 1 methods 1 actions 1\n",
     },
     // make
     Command {

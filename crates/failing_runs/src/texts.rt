@@ -29,3 +29,26 @@ pub(crate) const PRINTED_PROBLEM: &str = concat!(
 pub(crate) const PLAN: &str = "(htn_start htn_s1)\n(htn_m_m htn_s1)\n(a htn_s1)\n";
 
 pub(crate) const TREE: &str = "==>\n0 a\nroot 1\n1 t -> m 0\n<==\n";
+
+/// What is left of it, as HDDL.
+pub(crate) const PRUNED_DOMAIN: &str = concat!(
+    "(define (domain d)\n",
+    " (:requirements :adl :typing :hierarchy :method-preconditions)\n",
+    " (:types)\n",
+    " (:constants)\n",
+    " (:predicates)\n",
+    " (:task t :parameters ())\n",
+    " (:method m :parameters () :task (t) :precondition (and) :subtasks (and (s0 (a))) :ordering (and) :constraints (and))\n",
+    " (:action a :parameters () :precondition (and) :effect (and))\n",
+    ")\n",
+);
+
+pub(crate) const PRUNED_PROBLEM: &str = concat!(
+    "(define (problem p)\n",
+    " (:domain d)\n",
+    " (:objects)\n",
+    " (:htn :parameters () :subtasks (and (s0 (t))) :ordering (and) :constraints (and))\n",
+    " (:init)\n",
+    " (:goal (and))\n",
+    ")\n",
+);

@@ -11,18 +11,10 @@ use std::alloc::Global;
 use text_forms::sheets::{Ended, Sheet};
 
 /// The texts of a domain and of a problem.
+#[derive(Drop)]
 pub struct Texts {
     pub domain: Text,
     pub problem: Text,
-}
-
-impl Drop for Texts {
-    fn drop(self) {
-        let Texts {
-            domain: _,
-            problem: _,
-        } = self;
-    }
 }
 
 /// What is printed of a problem within a limit.

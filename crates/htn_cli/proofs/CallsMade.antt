@@ -7,8 +7,9 @@ use Rattle.outside_io.specs.Passed.{with_call}
 use Rattle.outside_io.specs.Files.{FilesState}
 use Rattle.outside_io.specs.Sink.{SinkState}
 use Rattle.made_transport.specs.Made.{made_domain}
+use Rattle.hddl_texts.specs.PrintedHddl.{hddl_domain_text, hddl_problem_text}
 use Rattle.command_words.specs.Names.{Word}
-use Rattle.command_words.specs.Words.{TranslationRequest, Request, to_translate, to_bound, to_decode, to_encode, to_validate, to_make, number_of, Asks}
+use Rattle.command_words.specs.Words.{TranslationRequest, Request, to_translate, to_bound, to_decode, to_encode, to_validate, to_make, to_prune, number_of, Asks}
 use Rattle.htn_cli.specs.Answer.{Output, refuses, gives}
 use Rattle.htn_cli.specs.Answers.{Refuses, Gives, RefusesFault, past_slots, too_large, faulty, declined, given}
 use Rattle.htn_cli.specs.Calling.{StopsGet, StopsGets, PassesInputs, StopsInputs, PassesRequest, StopsRequest}
@@ -30,6 +31,7 @@ use Rattle.htn_cli.specs.Making.{problem_of, translation_for}
 use Rattle.htn_cli.proofs.Headlines.{come, keep_here, keeps, bound_here, plan_here, finding_here}
 use Rattle.htn_cli.proofs.LawsUsed.{LawsUsed}
 use Rattle.htn_cli.proofs.MadeTold.{keeps_made}
+use Rattle.htn_cli.proofs.PruneTold.{keeps_pruned}
 use Rattle.htn_cli.proofs.TreeTold.{tree_here}
 use Rattle.htn_cli.proofs.StepsTold.{steps_here}
 use Rattle.htn_cli.proofs.InputsRead.{end_large, next_longer, large_longer}
@@ -173,6 +175,9 @@ keeps_by laws (to_make r) [] output (texts, actions, bound, width, steps, are, e
     (keeps_made laws r out out' texts actions bound width steps are texts.domain texts.problem refl refl
     (keep_here laws.ground (translation_for r) made_domain (problem_of r) out out' texts bound are.written texts.domain texts.problem refl refl)
     (subst (λ (z : Output). TakesWhole z.told out out') e told))
+keeps_by laws (to_prune r) (d ∷ p ∷ []) output (value, spell, short, e) out out' told =
+    subst (λ (z : Output). Keeps (to_prune r) (d ∷ p ∷ []) z.texts out out') (sym e)
+    (keeps_pruned d p value spell (hddl_domain_text value) (hddl_problem_text value) refl refl out out' (subst (λ (z : Output). TakesWhole z.told out out') e told))
 keeps_by laws _ _ output x out out' told = absurd x
 
 module _ (words : List Word) (old new : Option (List Passed)) where

@@ -5,7 +5,7 @@ use Rattle.outside_io.specs.Count.{HasRisen}
 use Rattle.outside_io.specs.Files.{FilesState}
 use Rattle.outside_io.specs.Sink.{SinkState}
 use Rattle.command_words.specs.Names.{Word}
-use Rattle.command_words.specs.Words.{Request, to_translate, to_bound, to_decode, to_encode, to_validate, to_make, Asks, AreOfAForm}
+use Rattle.command_words.specs.Words.{Request, to_translate, to_bound, to_decode, to_encode, to_validate, to_make, to_prune, Asks, AreOfAForm}
 use Rattle.command_words.proofs.Requests.{one_request}
 use Rattle.htn_cli.specs.Answer.{Text, Output, Answer, refuses, gives}
 use Rattle.htn_cli.specs.Answers.{Refuses, Gives, RefusesFault, RefusesSize, IsAnswerFor, past_slots, too_large, faulty, declined, given, IsAnswer}
@@ -85,6 +85,7 @@ few_most (to_decode r) = omega arith
 few_most (to_encode r) = omega arith
 few_most (to_validate r) = omega arith
 few_most (to_make r) = omega arith
+few_most (to_prune r) = omega arith
 
 -- A number of slots that is given and past a limit.
 module _ (n : ℕ) (request : Request) (e : slots_given request ≡ Some n) (many : most_slots_of request < n) where
@@ -254,6 +255,7 @@ module _ (old new : FilesState) (out out' : SinkState) where
 gives_no_text : (request : Request) → outputs_of request ≡ [] → (texts : List (List ℕ)) (output : Output) → Gives request texts output → output.texts ≡ []
 gives_no_text (to_translate r) none texts output x = absurd (cc)
 gives_no_text (to_make r) none texts output x = absurd (cc)
+gives_no_text (to_prune r) none texts output x = absurd (cc)
 gives_no_text (to_bound r) none (d ∷ p ∷ []) output (n, has, small, e) = ap (λ (z : Output). z.texts) e
 gives_no_text (to_decode r) none (d ∷ p ∷ l ∷ []) output (c, steps, slots, text, source, have, e) = ap (λ (z : Output). z.texts) e
 gives_no_text (to_encode r) none (d ∷ p ∷ l ∷ []) output (c, plan, text, source, is, e) = ap (λ (z : Output). z.texts) e
@@ -354,6 +356,7 @@ never_words (to_decode r) (d ∷ p ∷ l ∷ []) x = x
 never_words (to_encode r) (d ∷ p ∷ l ∷ []) x = x
 never_words (to_validate r) (d ∷ p ∷ l ∷ []) x = x
 never_words (to_make r) [] x = x
+never_words (to_prune r) (d ∷ p ∷ []) x = x
 never_words _ _ x = x
 
 pub no_words : (request : Request) (texts : List (List ℕ)) → IsAnswerFor request texts (refuses refused.Words) → ⊥

@@ -23,12 +23,13 @@ use Rattle.plan_proof.proofs.values.Headlines.{headline_of, headline_at_bound_of
 use Rattle.decode_answers.specs.DecodeLaws.{ValuesAreDecodedAlike}
 use Rattle.encode_answers.specs.EncodeLaws.{ValuesAreEncodedAlike}
 use Rattle.made_transport.specs.Made.{made_domain}
+use Rattle.hddl_texts.specs.PrintedHddl.{hddl_domain_text, hddl_problem_text}
 use Rattle.ground_bound.proofs.Width.{solutions_are_within}
 use Rattle.ground_answers.specs.GroundLaws.{ValuesHaveOneGroundBound}
 use Rattle.command_words.specs.declared.level.Level.{Level}
 use Rattle.command_words.specs.declared.level.Level.TheVariants.{Lifted, Ground}
 use Rattle.command_words.specs.Names.{Word}
-use Rattle.command_words.specs.Words.{TranslationRequest, BoundRequest, Request, to_translate, to_bound, to_decode, to_encode, to_validate, to_make, Asks}
+use Rattle.command_words.specs.Words.{TranslationRequest, BoundRequest, Request, to_translate, to_bound, to_decode, to_encode, to_validate, to_make, to_prune, Asks}
 use Rattle.htn_cli.specs.Answer.{Output, Answer, refuses, gives}
 use Rattle.htn_cli.specs.Answers.{Refuses, Gives, RefusesSize, RefusesFault, IsAnswerFor, past_slots, too_large, faulty, declined, given}
 use Rattle.htn_cli.specs.Bounding.{GivesBound}
@@ -41,6 +42,7 @@ use Rattle.htn_cli.specs.Levels.{IsBoundAt}
 use Rattle.htn_cli.specs.Lines.{slots_line, bound_line, valid_line, summary}
 use Rattle.htn_cli.specs.Making.{packages, problem_of, translation_for, GivesMake}
 use Rattle.htn_cli.specs.Problem.{SpellProblem}
+use Rattle.htn_cli.specs.Pruning.{hddl_texts_of, kept_line_of, GivesPrune}
 use Rattle.htn_cli.specs.Refusal.{status_of, line_of}
 use Rattle.htn_cli.specs.Requests.{inputs_of, most_slots_of}
 use Rattle.htn_cli.specs.Sent.{TakesWhole, Told}
@@ -55,6 +57,7 @@ use Rattle.htn_cli.specs.promise.Plan.{TellsPlan, HasPlan}
 use Rattle.htn_cli.specs.promise.Tree.{TellsTree, HasTree}
 use Rattle.htn_cli.specs.promise.Steps.{TellsSteps, HasSteps}
 use Rattle.htn_cli.specs.promise.Making.{KeepsMade, HasMade}
+use Rattle.htn_cli.specs.promise.Pruning.{KeepsPruned, HasPruned}
 use Rattle.htn_cli.specs.promise.Finding.{TellsFailure, TellsFinding, HasFinding}
 use Rattle.htn_cli.specs.promise.Promise.{KeepsPromise}
 use Rattle.htn_cli.specs.declared.status.Status.{Status}
@@ -69,6 +72,7 @@ use Rattle.htn_cli.proofs.Validations.{sound_apart}
 use Rattle.htn_cli.proofs.EachProblem.{slots_given, slots_computed, bound_at_each, cycle_of_each, faithful_of_each}
 use Rattle.htn_cli.proofs.LawsUsed.{LawsUsed}
 use Rattle.htn_cli.proofs.MadeTold.{keeps_made, nothing_made}
+use Rattle.htn_cli.proofs.PruneTold.{keeps_pruned, unsolved_here}
 use Rattle.htn_cli.proofs.TreeTold.{tree_here, none_here}
 use Rattle.htn_cli.proofs.StepsTold.{steps_here, no_steps_here}
 
@@ -182,6 +186,7 @@ finding_here laws (to_decode r) (d ∷ p ∷ plan ∷ []) (finding.SpellsNoSolut
 finding_here laws (to_encode r) (d ∷ p ∷ hplan ∷ []) f (c, plan, s, is) err err' line = no_steps_here laws.encoded r d p hplan c plan s.spelled laws.within f is err err' line
 finding_here laws (to_validate r) (pd ∷ pp ∷ plan ∷ []) (finding.NotAPlan step why) x err err' line = failure_here pd pp plan step why err err' line x
 finding_here laws (to_make r) [] f x err err' line = nothing_made laws r f x err err' line
+finding_here laws (to_prune r) (d ∷ p ∷ []) finding.NoSolution (source, read, cannot) err err' line = unsolved_here d p source read cannot err err' line
 finding_here laws _ _ f x err err' line = absurd x
 
 -- An output comes from all texts, which are given; and a finding from all texts, which are declined.
@@ -308,6 +313,17 @@ module _ (words : List Word) (files files' : FilesState) (out out' : SinkState) 
           keeps_made laws r out out' texts actions bound width steps are od op domain_is problem_is
           (keep_here laws.ground (translation_for r) made_domain (problem_of r) out out' texts bound are.written od op domain_is problem_is) line
 
+  pub pruned_done : HasPruned words files files' out out'
+  pruned_done r d p od op asked read domain_held problem_held = go (achieved (to_prune r) asked (d ∷ p ∷ []) read) (gives_here (to_prune r) asked (d ∷ p ∷ []) read)
+    where
+      go : (a : Achieves files files' out out' (to_prune r)) → GivesPrune r d p a.output → KeepsPruned d p od op out out'
+      go a (value, spell, short, e) =
+          let stand : Stand (texts_for r.names (hddl_texts_of value)) files files' = subst (λ (z : Output). Stand z.texts files files') e a.stands.0 in
+          let line : TakesWhole (kept_line_of value) out out' = subst (λ (z : Output). TakesWhole z.told out out') e a.stands.1 in
+          keeps_pruned d p value spell od op
+          (held_there files.held _ (hddl_domain_text value) od stand.held.0 domain_held)
+          (held_there files.held _ (hddl_problem_text value) op stand.held.1.0 problem_held) out out' line
+
 -- a finding that was told, and no other refusal has this status
 pub finding_refused : (laws : LawsUsed) (words : List Word) (files files' : FilesState) (out out' : SinkState) (refusal : Refusal) → IsRefused words files files' out out' refusal → status_of refusal ≡ status.Finding → (err err' : SinkState) → Told (line_of refusal) err err'
     → HasFinding words files err err'
@@ -334,6 +350,7 @@ module _ (laws : LawsUsed) (words : List Word) (files files' : FilesState) (out 
     encode = λ e. steps_done words files files' out out' done laws.decoded laws.encoded;
     validate = λ e. plan_done words files files' out out' done;
     make = λ e. made_done words files files' out out' done laws;
+    prune = λ e. pruned_done words files files' out out' done;
     finding = λ e. absurd (cc);
   }
 
@@ -346,5 +363,6 @@ module _ (laws : LawsUsed) (words : List Word) (files files' : FilesState) (out 
     encode = λ e. absurd (never_done refusal (sym is ∙ e));
     validate = λ e. absurd (never_done refusal (sym is ∙ e));
     make = λ e. absurd (never_done refusal (sym is ∙ e));
+    prune = λ e. absurd (never_done refusal (sym is ∙ e));
     finding = λ e. finding_refused laws words files files' out out' refusal left (sym is ∙ e) err err' told;
   }

@@ -18,6 +18,8 @@ pub mod EachProblem
 pub mod TreeTold
 pub mod StepsTold
 pub mod MadeTold
+pub mod Prunings
+pub mod PruneTold
 pub mod LawsUsed
 pub mod Headlines
 pub mod CallsMade
@@ -32,6 +34,7 @@ pub mod OneValidation
 pub mod OneDecoding
 pub mod OneEncoding
 pub mod OneMaking
+pub mod OnePruning
 pub mod OneAnswers
 pub mod StepsTaken
 pub mod TruthTold
@@ -45,4 +48,5 @@ pub mod SomeHPlan
 pub mod SomeEncoding
 pub mod SomeValidation
 pub mod SomeMaking
+pub mod SomePruning
 pub mod SomeAnswers

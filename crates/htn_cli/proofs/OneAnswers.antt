@@ -3,7 +3,7 @@ use Rattle.std.proofs.Common.{ℕ, ◌≡◌, ◌≤◌, ◌++◌, List, [], ◌
 use Rattle.htn_base.specs.Limits.{longest_output}
 use Rattle.outside_io.specs.Files.{FilesState}
 use Rattle.command_words.specs.Names.{Word}
-use Rattle.command_words.specs.Words.{TranslationRequest, BoundRequest, DecodeRequest, EncodeRequest, ValidationRequest, MakeRequest, Request, to_translate, to_bound, to_decode, to_encode, to_validate, to_make}
+use Rattle.command_words.specs.Words.{TranslationRequest, BoundRequest, DecodeRequest, EncodeRequest, ValidationRequest, MakeRequest, PruneRequest, Request, to_translate, to_bound, to_decode, to_encode, to_validate, to_make, to_prune}
 use Rattle.command_words.proofs.Requests.{one_request}
 use Rattle.decode_answers.specs.DecodeLaws.{EachIsDecodedOnce, ValuesAreDecodedAlike}
 use Rattle.encode_answers.specs.EncodeLaws.{EachIsEncodedOnce, EachIsSpelledOnce, ValuesAreEncodedAlike}
@@ -24,6 +24,7 @@ use Rattle.htn_cli.proofs.Endings.{few_most}
 use Rattle.htn_cli.proofs.OneFault.{one_fault, fault_not_declined, fault_not_given}
 use Rattle.htn_cli.proofs.OneInput.{Agree, agree, whole_same, large_not_whole, one_large}
 use Rattle.htn_cli.proofs.OneMaking.{MakeComes, one_made}
+use Rattle.htn_cli.proofs.OnePruning.{PruneComes, one_pruned}
 use Rattle.htn_cli.proofs.OneSlots.{past_few, one_past}
 use Rattle.htn_cli.proofs.OneTranslation.{TranslationComes, one_translated}
 use Rattle.htn_cli.proofs.OneValidation.{PlanComes, one_validated}
@@ -56,6 +57,10 @@ plan_comes r d p l (gives output) is = is.0
 make_comes : (r : MakeRequest) (a : Answer) → Comes (to_make r) [] a → MakeComes r a
 make_comes r (refuses refusal) is = is
 make_comes r (gives output) is = is
+
+prune_comes : (r : PruneRequest) (d p : List ℕ) (a : Answer) → Comes (to_prune r) (d ∷ p ∷ []) a → PruneComes r d p a
+prune_comes r d p (refuses refusal) is = is
+prune_comes r d p (gives output) is = is.0
 
 nothing_comes : (request : Request) (texts : List (List ℕ)) → ((refusal : Refusal) → Refuses request texts refusal → ⊥) → ((output : Output) → Gives request texts output → ⊥) → (a : Answer) → Comes request texts a → ⊥
 nothing_comes request texts r g (refuses refusal) is = r refusal is
@@ -110,6 +115,7 @@ module _ (once : EachIsDecodedOnce) (alike : ValuesAreDecodedAlike) (encoded_onc
   one_comes (to_encode r) (d ∷ p ∷ l ∷ []) a b is also = one_encoded encoded_once encoded_alike r d p l a b (encode_comes r d p l a is) (encode_comes r d p l b also)
   one_comes (to_validate r) (d ∷ p ∷ l ∷ []) a b is also = one_validated d p l a b (plan_comes r d p l a is) (plan_comes r d p l b also)
   one_comes (to_make r) [] a b is also = one_made encoded_once encoded_alike spelled_once ground r a b (make_comes r a is) (make_comes r b also)
+  one_comes (to_prune r) (d ∷ p ∷ []) a b is also = one_pruned r d p a b (prune_comes r d p a is) (prune_comes r d p b also)
   one_comes request texts a b is also = absurd (nothing_comes request texts (λ refusal x. x) (λ output x. x) a is)
 
   module _ (request : Request) (texts others : List (List ℕ)) (e : Agree texts others) (f : Agree others texts) where

@@ -17,13 +17,14 @@ use Rattle.text_values.specs.TextFaults.{HaveNoFault, IsLeastFault}
 use Rattle.text_values.proofs.OneFault.{have_one_fault, has_one_plan_fault}
 use Rattle.made_transport.specs.Made.{made_domain}
 use Rattle.command_words.specs.Names.{Word}
-use Rattle.command_words.specs.Words.{TranslationRequest, DecodeRequest, EncodeRequest, MakeRequest, Request, to_translate, to_bound, to_decode, to_encode, to_validate, to_make}
+use Rattle.command_words.specs.Words.{TranslationRequest, DecodeRequest, EncodeRequest, MakeRequest, Request, to_translate, to_bound, to_decode, to_encode, to_validate, to_make, to_prune}
 use Rattle.htn_cli.specs.Answer.{Output, refuses}
 use Rattle.htn_cli.specs.Answers.{IsLeastOf, Refuses, Gives, RefusesFault}
 use Rattle.htn_cli.specs.Decoding.{SpellSteps}
 use Rattle.htn_cli.specs.Encoding.{SpellHPlan}
 use Rattle.htn_cli.specs.Faults.{IsFaultAt, limit_code, place_text, fault_text}
 use Rattle.htn_cli.specs.Making.{problem_of, translation_for, RefusesMake, GivesMake}
+use Rattle.htn_cli.specs.Pruning.{RefusesPrune}
 use Rattle.htn_cli.specs.OneAnswer.{TellTheSame}
 use Rattle.htn_cli.specs.Problem.{SpellProblem}
 use Rattle.htn_cli.specs.Refusal.{counted_word}
@@ -127,6 +128,7 @@ one_least (to_decode r) (d ∷ p ∷ plan ∷ []) file code at f other more plac
 one_least (to_encode r) (d ∷ p ∷ hplan ∷ []) file code at f other more place g = one_of_three language.Hddl d p _ (hplan_one hplan) file code at f other more place g
 one_least (to_validate r) (d ∷ p ∷ plan ∷ []) file code at f other more place g = one_of_three language.Pddl d p _ (plan_one plan) file code at f other more place g
 one_least (to_make r) [] file code at f other more place g = (have_one_fault language.Hddl made_domain (problem_of r)).one file code at f other more place g
+one_least (to_prune r) (d ∷ p ∷ []) file code at f other more place g = (have_one_fault language.Hddl d p).one file code at f other more place g
 one_least _ _ file code at f other more place g = absurd f
 
 -- two texts that spell a problem have no fault
@@ -140,6 +142,11 @@ translation_faultless r d p (refused.Limit limit.Bound) (none, (n, (c, s, bound)
 translation_faultless r d p (refused.Limit (limit.Slots m)) (none, (n, (c, s, bound), past)) file code at f = no_fault d p r.checks c s file code at f
 translation_faultless r d p (refused.Limit (limit.Output n)) (c, slots, source, long) file code at f = no_fault d p r.checks c source.problem_is file code at f
 translation_faultless r d p _ x file code at f = absurd x
+
+prune_faultless : (d p : List ℕ) (refusal : Refusal) → RefusesPrune d p refusal → (file code at : ℕ) → IsLeastFault language.Hddl d p file code at → ⊥
+prune_faultless d p (refused.Finding finding.NoSolution) (source, read, cannot) file code at f = (have_one_fault language.Hddl d p).none read.faultless file code at f
+prune_faultless d p (refused.Limit (limit.Output n)) (value, spell, long) file code at f = (have_one_fault language.Hddl d p).none spell.read.faultless file code at f
+prune_faultless d p _ x file code at f = absurd x
 
 -- of a made problem
 module _ (r : MakeRequest) where
@@ -180,6 +187,7 @@ declined_faultless (to_encode r) (d ∷ p ∷ hplan ∷ []) (refused.Limit (limi
 declined_faultless (to_validate r) (d ∷ p ∷ plan ∷ []) (refused.Limit (limit.Steps n)) (c, steps, s, e, many) file code at f = fault_or_spelled d p plan c steps s file code at f
 declined_faultless (to_validate r) (d ∷ p ∷ plan ∷ []) (refused.Finding (finding.NotAPlan step why)) (c, steps, s, fails) file code at f = fault_or_spelled d p plan c steps s.spelled file code at f
 declined_faultless (to_make r) [] refusal x file code at f = made_faultless r refusal x file code at f
+declined_faultless (to_prune r) (d ∷ p ∷ []) refusal x file code at f = prune_faultless d p refusal x file code at f
 declined_faultless _ _ refusal x file code at f = absurd x
 
 given_faultless : (request : Request) (texts : List (List ℕ)) (output : Output) → Gives request texts output → (file code at : ℕ) → IsLeastOf request texts file code at → ⊥
@@ -189,6 +197,7 @@ given_faultless (to_decode r) (d ∷ p ∷ plan ∷ []) output (c, steps, slots,
 given_faultless (to_encode r) (d ∷ p ∷ hplan ∷ []) output (c, plan, text, s, is, e) file code at f = fault_or_hplan r d p hplan c plan s.spelled file code at f
 given_faultless (to_validate r) (d ∷ p ∷ plan ∷ []) output ((c, steps, s, is), e) file code at f = fault_or_spelled d p plan c steps s.spelled file code at f
 given_faultless (to_make r) [] output x file code at f = gives_made_faultless r output x file code at f
+given_faultless (to_prune r) (d ∷ p ∷ []) output (value, spell, short, e) file code at f = (have_one_fault language.Hddl d p).none spell.read.faultless file code at f
 given_faultless _ _ output x file code at f = absurd x
 
 one_name : (one other : Option Word) (a b : Word) → one ≡ other → one ≡ Some a → other ≡ Some b → a ≡ b

@@ -20,13 +20,13 @@ use Rattle.htn_cli.specs.declared.refusal.Refusal.TheVariants as refused
 use Rattle.htn_cli.proofs.OneProblem.{texts_same}
 use Rattle.htn_cli.proofs.OneSlots.{Follows, much, cycle, out, within, one_follows}
 
-one_long : (domain problem : List ℕ) (n m : ℕ) → IsFirstTooLong domain problem n → IsFirstTooLong domain problem m → n ≡ m
+pub one_long : (domain problem : List ℕ) (n m : ℕ) → IsFirstTooLong domain problem n → IsFirstTooLong domain problem m → n ≡ m
 one_long domain problem n m (inl (l, e)) (inl (k, f)) = e ∙ sym f
 one_long domain problem n m (inl (l, e)) (inr (few, k, f)) = absurd (omega (arith, l, few))
 one_long domain problem n m (inr (few, l, e)) (inl (k, f)) = absurd (omega (arith, k, few))
 one_long domain problem n m (inr (few, l, e)) (inr (less, k, f)) = e ∙ sym f
 
-not_long : (domain problem : List ℕ) (n : ℕ) → IsFirstTooLong domain problem n → length domain ≤ longest_output → length problem ≤ longest_output → ⊥
+pub not_long : (domain problem : List ℕ) (n : ℕ) → IsFirstTooLong domain problem n → length domain ≤ longest_output → length problem ≤ longest_output → ⊥
 not_long domain problem n (inl (l, e)) d p = omega (arith, l, d)
 not_long domain problem n (inr (few, l, e)) d p = omega (arith, l, p)
 

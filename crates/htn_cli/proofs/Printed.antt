@@ -16,14 +16,14 @@ use Rattle.htn_cli.specs.Printing.{AreWhole}
 use Rattle.htn_cli.specs.declared.manner.Manner.{Manner}
 
 -- a length that is told as far as 64 bits go is past the limit exactly where the whole length is
-short : (n : ℕ) → capped n ≤ longest_output → n ≤ longest_output
+pub short : (n : ℕ) → capped n ≤ longest_output → n ≤ longest_output
 short n few = omega (arith, few)
 
 long : (n : ℕ) → longest_output < capped n → longest_output < n
 long n past = omega (arith, past)
 
 -- the first text past the limit is the first that is too long
-first_too_long : (domain problem : List ℕ) (n : ℕ) → IsFirstPast longest_output domain problem n → IsFirstTooLong domain problem n
+pub first_too_long : (domain problem : List ℕ) (n : ℕ) → IsFirstPast longest_output domain problem n → IsFirstTooLong domain problem n
 first_too_long domain problem n (inl (past, is)) = inl (long (length domain) past, is)
 first_too_long domain problem n (inr (few, past, is)) = inr (short (length domain) few, long (length problem) past, is)
 

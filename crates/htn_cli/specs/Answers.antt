@@ -8,7 +8,7 @@ use Rattle.outside_io.specs.Files.{FilesState}
 use Rattle.text_values.specs.TextFaults.{IsLeastFault}
 use Rattle.made_transport.specs.Made.{made_domain}
 use Rattle.command_words.specs.Names.{Word}
-use Rattle.command_words.specs.Words.{Request, to_translate, to_bound, to_decode, to_encode, to_validate, to_make, Asks, AreOfAForm}
+use Rattle.command_words.specs.Words.{Request, to_translate, to_bound, to_decode, to_encode, to_validate, to_make, to_prune, Asks, AreOfAForm}
 use Rattle.htn_cli.specs.Answer.{Output, Answer, refuses, gives}
 use Rattle.htn_cli.specs.Bounding.{RefusesBound, GivesBound}
 use Rattle.htn_cli.specs.Faults.{IsNoLimit, limit_code, IsFaultAt}
@@ -21,6 +21,7 @@ use Rattle.htn_cli.specs.Encoding.{RefusesEncode, GivesSteps}
 use Rattle.htn_cli.specs.LeastFaults.{IsLeastWithPlan, IsLeastWithHPlan}
 use Rattle.htn_cli.specs.Validation.{RefusesPlan, GivesPlan}
 use Rattle.htn_cli.specs.Making.{problem_of, RefusesMake, GivesMake}
+use Rattle.htn_cli.specs.Pruning.{RefusesPrune, GivesPrune}
 use Rattle.htn_cli.specs.declared.refusal.Limit.TheVariants as limit
 use Rattle.htn_cli.specs.declared.refusal.Refusal.{Refusal}
 use Rattle.htn_cli.specs.declared.refusal.Refusal.TheVariants as refused
@@ -35,6 +36,7 @@ IsLeastOf (to_decode r) (d ∷ p ∷ plan ∷ []) = IsLeastWithPlan language.Hdd
 IsLeastOf (to_encode r) (d ∷ p ∷ hplan ∷ []) = IsLeastWithHPlan d p hplan
 IsLeastOf (to_validate r) (d ∷ p ∷ plan ∷ []) = IsLeastWithPlan language.Pddl d p plan
 IsLeastOf (to_make r) [] = IsLeastFault language.Hddl made_domain (problem_of r)
+IsLeastOf (to_prune r) (d ∷ p ∷ []) = IsLeastFault language.Hddl d p
 IsLeastOf _ _ = λ file code at. ⊥
 
 -- its refusals, where they have none
@@ -45,6 +47,7 @@ Refuses (to_decode r) (d ∷ p ∷ plan ∷ []) = RefusesDecode r d p plan
 Refuses (to_encode r) (d ∷ p ∷ hplan ∷ []) = RefusesEncode r d p hplan
 Refuses (to_validate r) (d ∷ p ∷ plan ∷ []) = RefusesPlan d p plan
 Refuses (to_make r) [] = RefusesMake r
+Refuses (to_prune r) (d ∷ p ∷ []) = RefusesPrune d p
 Refuses _ _ = λ refusal. ⊥
 
 -- and its output
@@ -55,6 +58,7 @@ Gives (to_decode r) (d ∷ p ∷ plan ∷ []) = GivesTree r d p plan
 Gives (to_encode r) (d ∷ p ∷ hplan ∷ []) = GivesSteps r d p hplan
 Gives (to_validate r) (d ∷ p ∷ plan ∷ []) = GivesPlan d p plan
 Gives (to_make r) [] = GivesMake r
+Gives (to_prune r) (d ∷ p ∷ []) = GivesPrune r d p
 Gives _ _ = λ output. ⊥
 
 -- of any command

@@ -17,6 +17,7 @@ pub mod Validation
 pub mod Decoding
 pub mod Encoding
 pub mod Making
+pub mod Pruning
 pub mod Answers
 pub mod Left
 pub mod Ending
@@ -31,4 +32,5 @@ pub mod Stops
 pub mod EncodeStops
 pub mod Made
 pub mod MakeStops
+pub mod PruneStops
 pub mod Calling

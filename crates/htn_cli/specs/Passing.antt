@@ -6,7 +6,7 @@ use Rattle.htn_base.specs.Limits.{longest_input}
 use Rattle.outside_io.specs.Calls.{Passed, got, got_none, stored}
 use Rattle.outside_io.specs.Sink.{SinkState}
 use Rattle.command_words.specs.Names.{Word}
-use Rattle.command_words.specs.Words.{Request, to_translate, to_bound, to_decode, to_encode, to_validate, to_make, Asks, AreOfAForm}
+use Rattle.command_words.specs.Words.{Request, to_translate, to_bound, to_decode, to_encode, to_validate, to_make, to_prune, Asks, AreOfAForm}
 use Rattle.htn_cli.specs.Answer.{Text, Output, refuses, gives}
 use Rattle.htn_cli.specs.Answers.{IsAnswerFor}
 use Rattle.htn_cli.specs.Inputs.{AreShort}
@@ -19,6 +19,7 @@ use Rattle.htn_cli.specs.promise.Plan.{TellsPlan}
 use Rattle.htn_cli.specs.promise.Tree.{TellsTree}
 use Rattle.htn_cli.specs.promise.Steps.{TellsSteps}
 use Rattle.htn_cli.specs.promise.Making.{KeepsMade}
+use Rattle.htn_cli.specs.promise.Pruning.{KeepsPruned}
 use Rattle.htn_cli.specs.promise.Finding.{TellsFinding}
 use Rattle.htn_cli.specs.declared.status.Status.{Status}
 use Rattle.htn_cli.specs.declared.refusal.Failure.TheVariants as failure
@@ -54,6 +55,7 @@ Keeps (to_decode r) (d ∷ p ∷ plan ∷ []) [] out out' = TellsTree r d p plan
 Keeps (to_encode r) (d ∷ p ∷ hplan ∷ []) [] out out' = TellsSteps r d p hplan out out'
 Keeps (to_validate r) (pd ∷ pp ∷ plan ∷ []) [] out out' = TellsPlan pd pp plan out out'
 Keeps (to_make r) [] (od ∷ op ∷ []) out out' = KeepsMade r od.bytes op.bytes out out'
+Keeps (to_prune r) (d ∷ p ∷ []) (od ∷ op ∷ []) out out' = KeepsPruned d p od.bytes op.bytes out out'
 Keeps _ _ _ out out' = ⊥
 
 module _ (words : List Word) (Called : List Passed → Type 0) where

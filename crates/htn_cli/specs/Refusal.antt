@@ -100,6 +100,7 @@ finding_text (finding.NotExecutable id) = codes "not executable: line " ++ decim
 finding_text finding.GoalFalse = codes "goal false"
 finding_text finding.NoPlacement = codes "no placement"
 finding_text (finding.NeedsBound width) = codes "needs bound " ++ decimal width
+finding_text finding.NoSolution = codes "no solution"
 
 abbrev pub failure_text : Failure → List ℕ
 failure_text (failure.Reading name) = codes "cannot read " ++ name.now

@@ -3,7 +3,7 @@
 use Rattle.std.specs.Prelude.{ℕ, ◌*◌, ◌≤◌, List, [], ◌∷◌, Option, Some, None, IfSome, codes, option_map}
 use Rattle.htn_base.specs.Limits.{most_slots}
 use Rattle.command_words.specs.Names.{Word}
-use Rattle.command_words.specs.Words.{Request, to_translate, to_bound, to_decode, to_encode, to_validate, to_make, number_of}
+use Rattle.command_words.specs.Words.{Request, to_translate, to_bound, to_decode, to_encode, to_validate, to_make, to_prune, number_of}
 
 -- its inputs, in the order in which they are read
 abbrev pub inputs_of : Request → List Word
@@ -13,6 +13,7 @@ inputs_of (to_decode r) = r.domain ∷ r.problem ∷ r.plan ∷ []
 inputs_of (to_encode r) = r.domain ∷ r.problem ∷ r.hplan ∷ []
 inputs_of (to_validate r) = r.domain ∷ r.problem ∷ r.plan ∷ []
 inputs_of (to_make r) = []
+inputs_of (to_prune r) = r.names.domain ∷ r.names.problem ∷ []
 
 -- its outputs, in the order in which they are put
 abbrev pub outputs_of : Request → List Word
@@ -22,6 +23,7 @@ outputs_of (to_decode r) = []
 outputs_of (to_encode r) = []
 outputs_of (to_validate r) = []
 outputs_of (to_make r) = r.printed_domain ∷ r.printed_problem ∷ []
+outputs_of (to_prune r) = r.names.printed_domain ∷ r.names.printed_problem ∷ []
 
 -- the names by which faults are told of its texts: a made problem is two texts that are no files
 abbrev pub names_told : Request → List Word
@@ -36,6 +38,7 @@ slots_given (to_decode r) = option_map number_of r.numeral
 slots_given (to_encode r) = option_map number_of r.numeral
 slots_given (to_validate r) = None
 slots_given (to_make r) = Some (5 * number_of r.numeral)
+slots_given (to_prune r) = None
 
 -- the most slots of a made problem
 abbrev pub most_made_slots : ℕ

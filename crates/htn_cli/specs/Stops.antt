@@ -17,7 +17,7 @@ use Rattle.hddl_reader.specs.declared.sections.Language.TheVariants as language
 use Rattle.bound_calc.specs.NoBound.{NamesCycle}
 use Rattle.command_words.specs.Names.{Word, AreApart}
 use Rattle.command_words.specs.Bounds.{IsNumeral, IsCount}
-use Rattle.command_words.specs.Words.{Request, translation_of, decode_of, encode_of, make_of, number_of}
+use Rattle.command_words.specs.Words.{Request, translation_of, decode_of, encode_of, make_of, prune_of, number_of}
 use Rattle.command_words.specs.declared.asking.Asked.{Asked}
 use Rattle.command_words.specs.declared.asking.Asked.TheVariants as asked
 use Rattle.htn_cli.specs.Answer.{Text, Output, refuses}
@@ -242,4 +242,5 @@ IsWellAsked (asked.Translation t) = IfSome (translation_of t).numeral IsNumeral 
 IsWellAsked (asked.Decoding d) = IfSome (decode_of d).numeral IsNumeral
 IsWellAsked (asked.Encoding e) = IfSome (encode_of e).numeral IsNumeral
 IsWellAsked (asked.Making m) = IsCount (make_of m).numeral × ((make_of m).printed_domain ≢ (make_of m).printed_problem)
+IsWellAsked (asked.Pruning p) = AreApart (prune_of p).names
 IsWellAsked _ = Unit {0}

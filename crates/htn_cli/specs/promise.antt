@@ -6,5 +6,6 @@ pub mod Plan
 pub mod Tree
 pub mod Steps
 pub mod Making
+pub mod Pruning
 pub mod Finding
 pub mod Promise

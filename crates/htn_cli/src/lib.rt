@@ -20,6 +20,7 @@ mod output;
 mod problem;
 mod process;
 mod program;
+mod prune;
 mod reading;
 mod refusal;
 mod sending;

@@ -1,6 +1,6 @@
-ghost use Rattle.std.specs.Prelude.{◌≡◌, ◌≤◌, ◌++◌, codes, length, IfOk, IfErr, OnOk};
+ghost use Rattle.std.specs.Prelude.{◌≡◌, ◌≤◌, ◌++◌, codes, decimal, length, IfOk, IfErr, OnOk};
 ghost use Rattle.htn_base.specs.Limits.{longest_output};
-ghost use Rattle.htn_cli.specs.Lines.{bound_line, count_line, slots_line, valid_line};
+ghost use Rattle.htn_cli.specs.Lines.{bound_line, count_line, kept_line, slots_line, valid_line};
 ghost use Rattle.htn_cli.specs.MakeStops.{summary_of};
 ghost use Rattle.htn_cli.specs.Stops.{IsWant};
 
@@ -31,6 +31,14 @@ pub(crate) struct Counts {
     pub(crate) bound: u32,
     pub(crate) width: u32,
     pub(crate) steps: u32,
+}
+
+/// How many tasks, methods and actions are kept.
+#[derive(Clone, Copy)]
+pub(crate) struct KeptCounts {
+    pub(crate) tasks: usize,
+    pub(crate) methods: usize,
+    pub(crate) actions: usize,
 }
 
 impl Drop for Output<'_> {
@@ -107,6 +115,36 @@ fn push_line(text: &mut Text, word: &[u8], number: u128) -> Result<(), Memory>
     text.push_all(word)?;
     text.push_all(buffer.format(number).as_bytes())?;
     text.push_all(b"\n")
+}
+
+/// The line of what is kept.
+pub(crate) fn kept_told<'a>(alloc: Global, counts: KeptCounts) -> Result<Text, Refusal<'a>>
+    ensures line { IfOk result (λ text.
+        text ≡ kept_line counts.tasks counts.methods counts.actions) }
+    ensures refused { IfErr result IsWant }
+{
+    made(kept_line_of(alloc, &counts))
+}
+
+fn kept_line_of(alloc: Global, counts: &KeptCounts) -> Result<Text, Memory>
+    ensures { IfOk result (λ text.
+        text ≡ kept_line counts.now.tasks counts.now.methods counts.now.actions) }
+{
+    let mut text = Text::new(alloc);
+    push_count(&mut text, b"tasks ", counts.tasks)?;
+    push_count(&mut text, b" methods ", counts.methods)?;
+    push_count(&mut text, b" actions ", counts.actions)?;
+    text.push_all(b"\n")?;
+    Ok(text)
+}
+
+/// Puts a word and a number at the end.
+fn push_count(text: &mut Text, word: &[u8], count: usize) -> Result<(), Memory>
+    ensures { OnOk result (text.new ≡ text.old ++ word.now ++ decimal count) }
+{
+    let mut buffer = Buffer::new();
+    text.push_all(word)?;
+    text.push_all(buffer.format(count).as_bytes())
 }
 
 fn line_of(alloc: Global, first: &[u8], second: &[u8]) -> Result<Text, Memory>

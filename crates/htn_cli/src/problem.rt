@@ -3,6 +3,7 @@ ghost use Rattle.htn_base.specs.Limits.{longest_input};
 ghost use Rattle.plan_texts.specs.SoundlyCompiled.{IsSoundlyCompiled};
 ghost use Rattle.hddl_reader.specs.declared.sections.Language.TheVariants as language;
 ghost use Rattle.text_values.specs.TextFaults.{IsLeastFault};
+ghost use Rattle.text_values.specs.Values.{IsValueOf};
 ghost use Rattle.htn_cli.specs.Levels.{IsBoundAt};
 ghost use Rattle.htn_cli.specs.Problem.{SpellProblem};
 ghost use Rattle.htn_cli.specs.Stops.{StopsBound, StopsFault};
@@ -14,7 +15,7 @@ use bound_calc::{NoBound, problem_bound};
 use command_words::Level;
 use ground_bound::{GroundError, ground_bound, ground_cycle_words};
 use htn_base::{Fault, Memory};
-use plan_model::{Checks, Compiled};
+use plan_model::{Checks, Compiled, Hddl};
 use std::alloc::Global;
 use text_forms::sexpr_text::ReadError;
 use text_values::hddl_of;
@@ -34,11 +35,31 @@ pub(crate) fn compiled_from<'a>(
     ensures refused { IfErr result (StopsFault (d.now ∷ p.now ∷ [])
         (IsLeastFault language.Hddl domain.now problem.now)) }
 {
-    match hddl_of(alloc, domain, problem) {
+    match problem_from(alloc, domain, problem, d, p) {
         Ok(read) => match compile(alloc, read, checks) {
             Ok(compiled) => Ok(compiled),
             Err(_) => Err(Refusal::Failure(Failure::Memory)),
         },
+        Err(refusal) => Err(refusal),
+    }
+}
+
+/// The problem that two texts of the files `d` and `p` spell.
+pub(crate) fn problem_from<'a>(
+    alloc: Global,
+    domain: &[u8],
+    problem: &[u8],
+    d: &'a str,
+    p: &'a str,
+) -> Result<Hddl, Refusal<'a>>
+    requires domain_short { length domain.now ≤ longest_input }
+    requires problem_short { length problem.now ≤ longest_input }
+    ensures read { IfOk result (IsValueOf domain.now problem.now) }
+    ensures refused { IfErr result (StopsFault (d.now ∷ p.now ∷ [])
+        (IsLeastFault language.Hddl domain.now problem.now)) }
+{
+    match hddl_of(alloc, domain, problem) {
+        Ok(read) => Ok(read),
         Err(ReadError::Bad(fault)) => Err(refusal_for(place_of(fault, d, p), fault.code)),
         Err(ReadError::Memory) => Err(Refusal::Failure(Failure::Memory)),
     }

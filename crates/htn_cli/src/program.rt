@@ -20,6 +20,7 @@ use crate::delivery::deliver;
 use crate::encode::encode;
 use crate::make::make;
 use crate::output::Output;
+use crate::prune::pruning;
 use crate::refusal::{Limit, Refusal};
 use crate::status::Status;
 use crate::telling::tell;
@@ -187,5 +188,6 @@ fn output_for<'a, F: Files>(
         Asked::Encoding(asked) => encode(alloc, asked, files),
         Asked::Validation(asked) => validation(alloc, asked, files),
         Asked::Making(asked) => make(alloc, asked),
+        Asked::Pruning(asked) => pruning(alloc, asked, files),
     }
 }

@@ -62,6 +62,8 @@ pub enum Finding {
     NoPlacement,
     /// The width of its latest schedule, which is greater than the given number of slots.
     NeedsBound(u32),
+    /// The problem has no solution: its top method isn't live, or its goal can't be so.
+    NoSolution,
 }
 
 /// What failed.
@@ -209,6 +211,7 @@ impl Finding {
             Finding::GoalFalse => ("goal false\n", Middle::Words(b""), ""),
             Finding::NoPlacement => ("no placement\n", Middle::Words(b""), ""),
             Finding::NeedsBound(width) => ("needs bound ", Middle::Number(*width as u128), "\n"),
+            Finding::NoSolution => ("no solution\n", Middle::Words(b""), ""),
         };
         Line {
             before,

@@ -9,6 +9,7 @@ use std::process::Abort;
 mod bounds;
 mod colours;
 mod decodings;
+mod prunings;
 mod refused;
 mod rows;
 mod texts;

@@ -4,8 +4,8 @@ use Rattle.plan_model.specs.declared.options.Style.TheVariants.{Flat}
 use Rattle.plan_model.specs.declared.options.Checks.TheVariants.{Leaf, AtOnce}
 use Rattle.command_words.specs.declared.level.Level.TheVariants.{Lifted, Ground}
 use Rattle.command_words.specs.Names.{Word, Names, names_in, AreApart}
-use Rattle.command_words.specs.Forms.{AreOptions, translation_form, bound_form}
-use Rattle.command_words.specs.Words.{SayTranslation, TranslationRequest, to_translate, to_bound, to_decode, to_encode, to_validate, to_make, AsksTranslation, AsksBound, AsksMake, AreOfAForm}
+use Rattle.command_words.specs.Forms.{AreOptions, AreOf, translation_form, bound_form, prune_form}
+use Rattle.command_words.specs.Words.{SayTranslation, TranslationRequest, to_translate, to_bound, to_decode, to_encode, to_validate, to_make, to_prune, AsksTranslation, AsksBound, AsksMake, AsksPrune, AreOfAForm}
 
 abbrev files : Names
 files = record { domain = codes "d.hddl"; problem = codes "p.hddl"; printed_domain = codes "od.pddl"; printed_problem = codes "op.pddl" }
@@ -53,6 +53,13 @@ nine_digits = (
   record { words = refl; count = record { digits = refl; some = lit≤ tt; few = lit≤ tt; above_zero = lit≤ tt }; apart = λ e. grind (arith, e) },
 )
 
+-- a pruning has no options
+prunes : AsksPrune (codes "prune" ∷ codes "d.hddl" ∷ codes "p.hddl" ∷ codes "od.pddl" ∷ codes "op.pddl" ∷ []) record { names = files }
+prunes = (names_in files, [], record { spelled = refl; counted = refl; allowed = tt }, record { files = refl; apart = files_apart })
+
+no_options : (names : List Word) → AreOf prune_form (codes "prune" ∷ codes "d" ∷ codes "p" ∷ codes "od" ∷ codes "op" ∷ codes "--checks" ∷ codes "leaf" ∷ []) names (codes "--checks" ∷ codes "leaf" ∷ []) → ⊥
+no_options names of = let (k, l, e) = of.allowed.0 in omega (arith, l)
+
 -- an option without a value, one that is there twice, and one that the command does not have
 no_value : AreOptions translation_form.options (codes "--bound" ∷ []) → ⊥
 no_value are = are
@@ -67,6 +74,7 @@ same_name options (to_decode r, (n, o, of, says)) = let e = ap (λ z. get_or z 0
 same_name options (to_encode r, (n, o, of, says)) = let e = ap (λ z. get_or z 0 []) of.spelled in absurd (grind (arith, e))
 same_name options (to_validate r, (n, o, of, says)) = let e = ap (λ z. get_or z 0 []) of.spelled in absurd (grind (arith, e))
 same_name options (to_make r, (n, o, of, says)) = let e = ap (λ z. get_or z 0 []) of.spelled in absurd (grind (arith, e))
+same_name options (to_prune r, (n, o, of, says)) = let e = ap (λ z. get_or z 0 []) of.spelled in absurd (grind (arith, e))
 same_name options (to_translate r, (n, o, of, says)) =
     let d = ap (λ z. get_or z 1 []) of.spelled in
     let od = ap (λ z. get_or z 3 []) of.spelled in
@@ -80,3 +88,4 @@ no_words (to_decode r, (n, o, of, says)) = let e = of.spelled in cc
 no_words (to_encode r, (n, o, of, says)) = let e = of.spelled in cc
 no_words (to_validate r, (n, o, of, says)) = let e = of.spelled in cc
 no_words (to_make r, (n, o, of, says)) = let e = of.spelled in cc
+no_words (to_prune r, (n, o, of, says)) = let e = of.spelled in cc

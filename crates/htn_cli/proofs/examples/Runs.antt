@@ -1,6 +1,8 @@
 use Rattle.std.proofs.Common.{◌≡◌, codes, refl}
+use Rattle.htn_cli.specs.Lines.{kept_line}
 use Rattle.htn_cli.specs.Refusal.{line_of}
 use Rattle.htn_cli.specs.declared.refusal.Failure.TheVariants as failure
+use Rattle.htn_cli.specs.declared.refusal.Finding.TheVariants as finding
 use Rattle.htn_cli.specs.declared.refusal.Limit.TheVariants as limit
 use Rattle.htn_cli.specs.declared.refusal.Refusal.TheVariants as refused
 
@@ -9,3 +11,9 @@ out_of_memory = refl
 
 past_all : line_of (refused.Limit limit.Bound) ≡ codes "limit bound\n"
 past_all = refl
+
+no_solution : line_of (refused.Finding finding.NoSolution) ≡ codes "no solution\n"
+no_solution = refl
+
+smallest_is_kept : kept_line 1 1 1 ≡ codes "tasks 1 methods 1 actions 1\n"
+smallest_is_kept = refl

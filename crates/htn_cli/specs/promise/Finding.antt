@@ -11,7 +11,7 @@ use Rattle.plan_texts.specs.SpellsPddl.{SpellsPddl}
 use Rattle.plan_model.specs.declared.causes.FailWhy.{FailWhy}
 use Rattle.plan_proof.specs.TextPlans.{IsPlanOf}
 use Rattle.command_words.specs.Names.{Word}
-use Rattle.command_words.specs.Words.{Request, to_translate, to_bound, to_decode, to_encode, to_validate, to_make, Asks}
+use Rattle.command_words.specs.Words.{Request, to_translate, to_bound, to_decode, to_encode, to_validate, to_make, to_prune, Asks}
 use Rattle.htn_cli.specs.Told.{AreToldToRead}
 use Rattle.htn_cli.specs.Requests.{inputs_of}
 use Rattle.htn_cli.specs.Refusal.{line_of}
@@ -22,6 +22,7 @@ use Rattle.htn_cli.specs.promise.Cycle.{TellsCycle}
 use Rattle.htn_cli.specs.promise.Tree.{TellsNoSolution}
 use Rattle.htn_cli.specs.promise.Steps.{TellsNoSteps}
 use Rattle.htn_cli.specs.promise.Making.{TellsNothingMade}
+use Rattle.htn_cli.specs.promise.Pruning.{TellsUnsolved}
 
 -- a list that was called none: it is the list that the third text spells, and no plan of the two others; the line tells the first step that
 -- fails in a value that these spell, and its first cause
@@ -45,6 +46,7 @@ TellsFinding (to_decode request) (d ∷ p ∷ plan ∷ []) err err' =
 TellsFinding (to_encode request) (d ∷ p ∷ hplan ∷ []) err err' = TellsNoSteps request d p hplan err err'
 TellsFinding (to_validate request) (pd ∷ pp ∷ plan ∷ []) err err' = TellsFailure pd pp plan err err'
 TellsFinding (to_make request) [] err err' = TellsNothingMade request err err'
+TellsFinding (to_prune request) (d ∷ p ∷ []) err err' = TellsUnsolved d p err err'
 TellsFinding _ _ err err' = ⊥
 
 module _ (words : List Word) (files : FilesState) (err err' : SinkState) where

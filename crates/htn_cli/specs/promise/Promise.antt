@@ -11,6 +11,7 @@ use Rattle.htn_cli.specs.promise.Plan.{HasPlan}
 use Rattle.htn_cli.specs.promise.Tree.{HasTree}
 use Rattle.htn_cli.specs.promise.Steps.{HasSteps}
 use Rattle.htn_cli.specs.promise.Making.{HasMade}
+use Rattle.htn_cli.specs.promise.Pruning.{HasPruned}
 use Rattle.htn_cli.specs.promise.Finding.{HasFinding}
 use Rattle.htn_cli.specs.declared.status.Status.{Status}
 use Rattle.htn_cli.specs.declared.status.Status.TheVariants.{Done, Finding}
@@ -28,5 +29,7 @@ pub record KeepsPromise (words : List Word) (files files' : FilesState) (out out
   pub validate : status ≡ Done → HasPlan words files out out'
   -- the made texts are those of the made problem, and the numbers that are told are right
   pub make : status ≡ Done → HasMade words files' out out'
+  -- the texts that are written have the solutions and the plans of those that are read, and the numbers that are told are right
+  pub prune : status ≡ Done → HasPruned words files files' out out'
   -- and what is found is so
   pub finding : status ≡ Finding → HasFinding words files err err'

@@ -33,6 +33,10 @@ const WORDS: &[&[&str]] = &[
     &["bound", "d.hddl", "p.hddl", "--style", "adl"],
     &["bound", "d.hddl", "p.hddl", "--level"],
     &["encode", "d.hddl", "p.hddl", "hplan", "--level", "ground"],
+    &["prune", "d.hddl", "p.hddl", "p.hddl", "op.pddl"],
+    &[
+        "prune", "d.hddl", "p.hddl", "od.pddl", "op.pddl", "--checks", "leaf",
+    ],
 ];
 
 const OPTIONS: &[&[&str]] = &[

@@ -16,6 +16,7 @@ well_asked words (asked.Decoding d) asks = decode_numeral_is words (decode_of d)
 well_asked words (asked.Encoding e) asks = encode_numeral_is words (encode_of e) asks
 well_asked words (asked.Validation v) asks = tt
 well_asked words (asked.Making m) asks = (asks.3.count, asks.3.apart)
+well_asked words (asked.Pruning p) asks = asks.3.apart
 
 pub perform-requires : goal.perform-requires
 perform-requires g c = record { well = well_asked (words_of c.args.words.now) c.in-Some.asked c.in-Some.ensures.asked }
