@@ -49,6 +49,7 @@ one_translation_said n o r s a b =
     let level = one_some r.level s.level a.level b.level in
     let style = one_some r.style s.style a.style b.style in
     let checks = one_some r.checks s.checks a.checks b.checks in
+    let rule = one_some r.rule s.rule a.rule b.rule in
     λ i.
     record {
       names = record { domain = get_or (e i) 0 []; problem = get_or (e i) 1 []; printed_domain = get_or (e i) 2 []; printed_problem = get_or (e i) 3 [] };
@@ -56,6 +57,7 @@ one_translation_said n o r s a b =
       level = level i;
       style = style i;
       checks = checks i;
+      rule = rule i;
     }
 
 one_bound_said : (n o : List Word) (r s : BoundRequest) → SayBound n o r → SayBound n o s → r ≡ s

@@ -11,7 +11,7 @@ use Rattle.std.proofs.lemmas.Slice.Eq.{bytes_eq-Decides}
 use Rattle.command_words.specs.Names.{Word, Names, AreApart}
 use Rattle.command_words.specs.Bounds.{IsNumeral, IsCount}
 use Rattle.command_words.specs.Forms.{Row, said, AreOptions, AreOf, translation_form, bound_form, decode_form, encode_form, validation_form, make_form, prune_form}
-use Rattle.command_words.specs.Options.{AreSlots, slots_said, style_said, checks_said, level_said, IsComputed}
+use Rattle.command_words.specs.Options.{AreSlots, slots_said, style_said, checks_said, level_said, IsComputed, rule_said}
 use Rattle.command_words.specs.Words.{TranslationRequest, BoundRequest, DecodeRequest, EncodeRequest, ValidationRequest, MakeRequest, PruneRequest, to_translate, to_bound, to_decode, to_encode, to_validate, to_make, to_prune, AskBy, SayTranslation, SayBound, SayDecode, SayEncode, SayValidation, SayMake, SayPrune, AsksTranslation, AsksBound, AsksDecode, AsksEncode, AsksValidation, AsksMake, AsksPrune, AreOfAForm}
 use Rattle.command_words.proofs.Said.{among_told}
 use Rattle.command_words.proofs.Requests.{not_said, no_form}
@@ -140,7 +140,7 @@ module _ (options : List Word) where
   translation_of_four : (n : Names) → SaysTold SayTranslation (n.domain ∷ n.problem ∷ n.printed_domain ∷ n.printed_problem ∷ []) options
   translation_of_four n =
       go (both (apart_told n) (both (slots_told (slots_said options)) computed_told)) (value_told (level_said options)) (value_told (style_said options))
-      (value_told (checks_said options))
+      (value_told (checks_said options)) (value_told (rule_said options))
     where
       same : (r : TranslationRequest) → SayTranslation (n.domain ∷ n.problem ∷ n.printed_domain ∷ n.printed_problem ∷ []) options r → r.names ≡ n
       same r s = let e = sym s.files in λ i. record { domain = get_or (e i) 0 []; problem = get_or (e i) 1 []; printed_domain = get_or (e i) 2 []; printed_problem = get_or (e i) 3 [] }
@@ -149,15 +149,17 @@ module _ (options : List Word) where
           → ((v : _) × (level_said options ≡ Some v)) ⊎ ((v : _) → level_said options ≡ Some v → ⊥)
           → ((v : _) × (style_said options ≡ Some v)) ⊎ ((v : _) → style_said options ≡ Some v → ⊥)
           → ((v : _) × (checks_said options ≡ Some v)) ⊎ ((v : _) → checks_said options ≡ Some v → ⊥)
+          → ((v : _) × (rule_said options ≡ Some v)) ⊎ ((v : _) → rule_said options ≡ Some v → ⊥)
           → SaysTold SayTranslation (n.domain ∷ n.problem ∷ n.printed_domain ∷ n.printed_problem ∷ []) options
-      go (inl h) (inl l) (inl s) (inl c) = inl (
-        record { names = n; numeral = slots_said options; level = l.0; style = s.0; checks = c.0 },
-        record { files = refl; numeral = refl; slots = h.1.0; level = l.1; computed = h.1.1; style = s.1; checks = c.1; apart = h.0 },
+      go (inl h) (inl l) (inl s) (inl c) (inl f) = inl (
+        record { names = n; numeral = slots_said options; level = l.0; style = s.0; checks = c.0; rule = f.0 },
+        record { files = refl; numeral = refl; slots = h.1.0; level = l.1; computed = h.1.1; style = s.1; checks = c.1; rule = f.1; apart = h.0 },
       )
-      go (inr m) l s c = inr (λ r a. m (subst AreApart (same r a) a.apart, (subst AreSlots a.numeral a.slots, a.computed)))
-      go (inl h) (inr m) s c = inr (λ r a. m r.level a.level)
-      go (inl h) (inl l) (inr m) c = inr (λ r a. m r.style a.style)
-      go (inl h) (inl l) (inl s) (inr m) = inr (λ r a. m r.checks a.checks)
+      go (inr m) l s c f = inr (λ r a. m (subst AreApart (same r a) a.apart, (subst AreSlots a.numeral a.slots, a.computed)))
+      go (inl h) (inr m) s c f = inr (λ r a. m r.level a.level)
+      go (inl h) (inl l) (inr m) c f = inr (λ r a. m r.style a.style)
+      go (inl h) (inl l) (inl s) (inr m) f = inr (λ r a. m r.checks a.checks)
+      go (inl h) (inl l) (inl s) (inl c) (inr m) = inr (λ r a. m r.rule a.rule)
 
   not_four : (names : List Word) → (length names ≡ 4 → ⊥) → (r : TranslationRequest) → SayTranslation names options r → ⊥
   not_four names l r a = l (ap length a.files)

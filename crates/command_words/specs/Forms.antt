@@ -18,7 +18,7 @@ row_of form = record { command = form.command.now; names = form.names; options =
 -- The table of forms.
 
 abbrev pub translation_form : Row
-translation_form = record { command = codes "translate"; names = 4; options = codes "--bound" ∷ codes "--level" ∷ codes "--style" ∷ codes "--checks" ∷ [] }
+translation_form = record { command = codes "translate"; names = 4; options = codes "--bound" ∷ codes "--level" ∷ codes "--style" ∷ codes "--checks" ∷ codes "--slots" ∷ [] }
 
 abbrev pub bound_form : Row
 bound_form = record { command = codes "bound"; names = 2; options = codes "--level" ∷ codes "--checks" ∷ [] }

@@ -5,6 +5,8 @@ use Rattle.plan_model.specs.declared.options.Style.{Style}
 use Rattle.plan_model.specs.declared.options.Style.TheVariants.{Adl, Flat}
 use Rattle.plan_model.specs.declared.options.Checks.{Checks}
 use Rattle.plan_model.specs.declared.options.Checks.TheVariants.{Leaf, AtOnce}
+use Rattle.plan_model.specs.declared.options.Slots.{Slots}
+use Rattle.plan_model.specs.declared.options.Slots.TheVariants.{Any, First}
 use Rattle.command_words.specs.declared.level.Level.{Level}
 use Rattle.command_words.specs.declared.level.Level.TheVariants.{Lifted, Ground}
 use Rattle.command_words.specs.Names.{Word}
@@ -25,6 +27,9 @@ checks_words = (codes "leaf", Leaf) ∷ (codes "atonce", AtOnce) ∷ []
 abbrev pub level_words : List (Word × Level)
 level_words = (codes "lifted", Lifted) ∷ (codes "ground", Ground) ∷ []
 
+abbrev pub rule_words : List (Word × Slots)
+rule_words = (codes "any", Any) ∷ (codes "first", First) ∷ []
+
 -- What words say by an option, from the words of all options.
 
 abbrev pub slots_said : List Word → Option Word
@@ -41,6 +46,9 @@ checks_said options = value_by checks_words Leaf (said (codes "--checks") option
 
 abbrev pub level_said : List Word → Option Level
 level_said options = value_by level_words Lifted (said (codes "--level") options)
+
+abbrev pub rule_said : List Word → Option Slots
+rule_said options = value_by rule_words Any (said (codes "--slots") options)
 
 -- a level is said only where no number of slots is given, so that a bound is computed
 abbrev pub IsComputed : List Word → Type 0

@@ -3,6 +3,7 @@ use Rattle.std.specs.Prelude.{ℕ, ◌≡◌, ◌≢◌, List, [], ◌∷◌, Op
 use Rattle.std.specs.Str.Parse.{digits_value}
 use Rattle.plan_model.specs.declared.options.Style.{Style}
 use Rattle.plan_model.specs.declared.options.Checks.{Checks}
+use Rattle.plan_model.specs.declared.options.Slots.{Slots}
 use Rattle.command_words.specs.declared.level.Level.{Level}
 use Rattle.command_words.specs.declared.asking.Translation.{Translation}
 use Rattle.command_words.specs.declared.asking.Bounding.{Bounding}
@@ -18,16 +19,17 @@ use Rattle.command_words.specs.declared.commands.Command.TheVariants.{Translate,
 use Rattle.command_words.specs.Names.{Word, Names, names_of, names_in, AreApart}
 use Rattle.command_words.specs.Bounds.{IsCount}
 use Rattle.command_words.specs.Forms.{Row, AreOf, translation_form, bound_form, decode_form, encode_form, validation_form, make_form, prune_form}
-use Rattle.command_words.specs.Options.{AreSlots, slots_said, style_said, checks_said, level_said, IsComputed}
+use Rattle.command_words.specs.Options.{AreSlots, slots_said, style_said, checks_said, level_said, IsComputed, rule_said}
 
 -- a translation that is asked for: its files, the numeral of its slots where one is given, the level of a bound that is computed, its
--- style, and how preconditions of methods are checked
+-- style, how preconditions of methods are checked, and which free slots a method takes
 pub record TranslationRequest : Type 0 where
   pub names : Names
   pub numeral : Option Word
   pub level : Level
   pub style : Style
   pub checks : Checks
+  pub rule : Slots
 
 -- a bound that is asked for: the files that are read, its level, and how preconditions of methods are checked
 pub record BoundRequest : Type 0 where
@@ -84,8 +86,8 @@ pub data Request : Type 0 where
 abbrev pub AskBy : {R : Type 0} → Row → (List Word → List Word → R → Type 0) → List Word → R → Type 0
 AskBy form Say words request = (names options : List Word) × AreOf form words names options × Say names options request
 
--- a translation keeps its inputs; its numeral is that of the option, its level is the lifted one, its style is ADL and its checks are
--- leaves where no option says more
+-- a translation keeps its inputs; its numeral is that of the option, its level is the lifted one, its style is ADL, its checks are leaves
+-- and a method takes any free slots where no option says more
 pub record SayTranslation (names options : List Word) (request : TranslationRequest) : Type 0 where
   pub files : names ≡ names_in request.names
   pub numeral : request.numeral ≡ slots_said options
@@ -94,6 +96,7 @@ pub record SayTranslation (names options : List Word) (request : TranslationRequ
   pub computed : IsComputed options
   pub style : style_said options ≡ Some request.style
   pub checks : checks_said options ≡ Some request.checks
+  pub rule : rule_said options ≡ Some request.rule
   pub apart : AreApart request.names
 
 pub record SayBound (names options : List Word) (request : BoundRequest) : Type 0 where
@@ -169,7 +172,14 @@ number_of numeral = digits_value 10 numeral
 -- what is asked for, by its words
 
 abbrev pub translation_of : Translation → TranslationRequest
-translation_of t = record { names = names_of t.names; numeral = option_copied t.numeral; level = t.level; style = t.style; checks = t.checks }
+translation_of t = record {
+  names = names_of t.names;
+  numeral = option_copied t.numeral;
+  level = t.level;
+  style = t.style;
+  checks = t.checks;
+  rule = t.rule;
+}
 
 abbrev pub bound_of : Bounding → BoundRequest
 bound_of b = record { domain = b.d.now; problem = b.p.now; level = b.level; checks = b.checks }
@@ -200,13 +210,14 @@ request_of (asked.Pruning p) = to_prune (prune_of p)
 
 -- the words ask for this command
 abbrev pub AskFor : List Word → Command → Type 0
-AskFor words (Translate d p od op bound level style checks) =
+AskFor words (Translate d p od op bound level style checks slots) =
     AsksTranslation words record {
       names = record { domain = d.now; problem = p.now; printed_domain = od.now; printed_problem = op.now };
       numeral = option_copied bound;
       level = level;
       style = style;
       checks = checks;
+      rule = slots;
     }
 AskFor words (Bound d p level checks) = AsksBound words record { domain = d.now; problem = p.now; level = level; checks = checks }
 AskFor words (Decode d p plan bound level checks) =

@@ -1,6 +1,6 @@
 use crate::level::Level;
 use crate::names::Named;
-use plan_model::{Checks, Style};
+use plan_model::{Checks, Slots, Style};
 
 /// What is asked for.
 #[derive(Clone, Copy)]
@@ -15,7 +15,7 @@ pub enum Asked<'a> {
 }
 
 /// A translation that is asked for: its files, the numeral of its slots where one is given, the level of
-/// a bound that is computed, its style and its checks of preconditions.
+/// a bound that is computed, its style, its checks of preconditions, and its rule for new slots.
 #[derive(Clone, Copy)]
 pub struct Translation<'a> {
     pub names: Named<'a>,
@@ -23,6 +23,7 @@ pub struct Translation<'a> {
     pub level: Level,
     pub style: Style,
     pub checks: Checks,
+    pub rule: Slots,
 }
 
 /// A bound that is asked for: the files that are read, its level, and the checks of preconditions.

@@ -1,5 +1,5 @@
 use crate::level::Level;
-use plan_model::{Checks, Style};
+use plan_model::{Checks, Slots, Style};
 
 /// What the words of the command line ask for. Files are named by their words.
 #[derive(Clone, Copy)]
@@ -14,6 +14,7 @@ pub enum Command<'a> {
         level: Level,
         style: Style,
         checks: Checks,
+        slots: Slots,
     },
     /// Read the HDDL domain `d` and problem `p`, and print their bound.
     Bound {

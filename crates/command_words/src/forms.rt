@@ -16,7 +16,7 @@ pub(crate) struct Form<'a> {
 pub(crate) const TRANSLATION: Form<'static> = Form {
     command: "translate",
     names: 4,
-    options: &["--bound", "--level", "--style", "--checks"],
+    options: &["--bound", "--level", "--style", "--checks", "--slots"],
 };
 
 pub(crate) const BOUND: Form<'static> = Form {

@@ -1,12 +1,12 @@
 ghost use Rattle.std.specs.Prelude.{◌≡◌, ◌↔◌, IsTrue};
 ghost use Rattle.std.specs.Option.{option_copied};
 ghost use Rattle.command_words.specs.Names.{words_of};
-ghost use Rattle.command_words.specs.Options.{AreSlots, checks_said, IsComputed, level_said, slots_said, style_said};
+ghost use Rattle.command_words.specs.Options.{AreSlots, checks_said, IsComputed, level_said, rule_said, slots_said, style_said};
 
 use crate::bounds::is_numeral;
 use crate::forms::said;
 use crate::level::Level;
-use plan_model::{Checks, Style};
+use plan_model::{Checks, Slots, Style};
 
 /// The word for a number of slots, where the options have one.
 pub(crate) fn slots(options: &[String]) -> Option<&str>
@@ -45,6 +45,18 @@ pub(crate) fn checks(options: &[String]) -> Option<Checks>
         None => Some(Checks::Leaf),
         Some(word) if word == "leaf" => Some(Checks::Leaf),
         Some(word) if word == "atonce" => Some(Checks::AtOnce),
+        Some(_) => None,
+    }
+}
+
+/// The rule for new slots that the options say; `None` where its word is of no rule.
+pub(crate) fn rule(options: &[String]) -> Option<Slots>
+    ensures { result ≡ rule_said (words_of options.now) }
+{
+    match said("--slots", options) {
+        None => Some(Slots::Any),
+        Some(word) if word == "any" => Some(Slots::Any),
+        Some(word) if word == "first" => Some(Slots::First),
         Some(_) => None,
     }
 }

@@ -10,17 +10,18 @@ use crate::bounds::{count_of, is_count};
 use crate::commands::Command;
 use crate::forms::{BOUND, DECODING, ENCODING, MAKING, PRUNING, TRANSLATION, VALIDATION, parts_of};
 use crate::names::{Named, are_apart};
-use crate::options::{are_slots, checks, is_computed, level, slots, style};
+use crate::options::{are_slots, checks, is_computed, level, rule, slots, style};
 
 /// The command that the words ask for; `None` exactly where the words are of no command's form.
 /// It takes no memory.
 ///
-/// The forms are `translate D P OD OP` with the options `--bound N` or `--level lifted|ground`, `--style adl|flat` and
-/// `--checks leaf|atonce`, where OD and OP differ and neither is D or P, `bound D P` with the options `--level lifted|ground`
-/// and `--checks leaf|atonce`, `decode D P PLAN` with the options `--bound N` or `--level lifted|ground`, and
-/// `--checks leaf|atonce`, `encode D P HPLAN` with the options `--bound N` and `--checks leaf|atonce`, `validate PD PP PLAN`,
-/// `make K OD OP`, where OD and OP differ, and `prune D P OD OP`, whose names are apart as those of `translate`. Options come in any order and may be left out: the level is then `lifted`, the
-/// style `adl`, and the checks are `leaf`.
+/// The forms are `translate D P OD OP` with the options `--bound N` or `--level lifted|ground`, `--style adl|flat`,
+/// `--checks leaf|atonce` and `--slots any|first`, where OD and OP differ and neither is D or P, `bound D P` with the options
+/// `--level lifted|ground` and `--checks leaf|atonce`, `decode D P PLAN` with the options `--bound N` or
+/// `--level lifted|ground`, and `--checks leaf|atonce`, `encode D P HPLAN` with the options `--bound N` and
+/// `--checks leaf|atonce`, `validate PD PP PLAN`, `make K OD OP`, where OD and OP differ, and `prune D P OD OP`, whose names
+/// are apart as those of `translate`. Options come in any order and may be left out: the level is then `lifted`, the style
+/// `adl`, the checks are `leaf`, and the slots `any`.
 pub fn command(words: &[String]) -> Option<Command<'_>>
     ensures asked { IfSome result (AskFor (words_of words.now)) }
     ensures formless { IfNone result (AreOfAForm (words_of words.now) → ⊥) }
@@ -35,6 +36,7 @@ pub fn command(words: &[String]) -> Option<Command<'_>>
             level: asked.level,
             style: asked.style,
             checks: asked.checks,
+            slots: asked.rule,
         }),
         Asked::Bound(asked) => Some(Command::Bound {
             d: asked.d,
@@ -135,6 +137,7 @@ fn translation<'a>(names: &'a [String], options: &'a [String]) -> Option<Transla
         level: level(options)?,
         style: style(options)?,
         checks: checks(options)?,
+        rule: rule(options)?,
     })
 }
 

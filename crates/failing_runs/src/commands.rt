@@ -1,7 +1,8 @@
 //! The commands, each over the smallest problem.
 use crate::made::{MADE_DOMAIN, MADE_PROBLEM};
 use crate::texts::{
-    DOMAIN, PLAN, PRINTED_DOMAIN, PRINTED_PROBLEM, PROBLEM, PRUNED_DOMAIN, PRUNED_PROBLEM, TREE,
+    DOMAIN, FIRST_DOMAIN, FIRST_PROBLEM, PLAN, PRINTED_DOMAIN, PRINTED_PROBLEM, PROBLEM,
+    PRUNED_DOMAIN, PRUNED_PROBLEM, TREE, TWO_DOMAIN,
 };
 
 /// What a text is read as.
@@ -53,6 +54,12 @@ const P: Input = Input {
     form: Form::Definition,
 };
 
+const TWO: Input = Input {
+    name: "d.hddl",
+    text: TWO_DOMAIN,
+    form: Form::Definition,
+};
+
 const SPELLING: Input = Input {
     name: "plan",
     text: PLAN,
@@ -89,6 +96,20 @@ pub(crate) const COMMANDS: &[Command] = &[
         reads: &[D, P],
         writes: &[("od", PRINTED_DOMAIN), ("op", PRINTED_PROBLEM)],
         tells: "slots 1\n",
+    },
+    Command {
+        words: &[
+            "translate",
+            "d.hddl",
+            "p.hddl",
+            "od",
+            "op",
+            "--slots",
+            "first",
+        ],
+        reads: &[TWO, P],
+        writes: &[("od", FIRST_DOMAIN), ("op", FIRST_PROBLEM)],
+        tells: "slots 2\n",
     },
     Command {
         words: &["bound", "d.hddl", "p.hddl"],

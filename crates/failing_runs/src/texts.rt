@@ -26,6 +26,31 @@ pub(crate) const PRINTED_PROBLEM: &str = concat!(
     ")\n",
 );
 
+/// The same with two subtasks, without an order. Its printed texts have first-free slots; they were made by hand, from the rules.
+pub(crate) const TWO_DOMAIN: &str =
+    "(define (domain d) (:task t :parameters ()) (:method m :parameters () :task (t) :subtasks (and (a) (a))) (:action a :parameters ()))";
+
+pub(crate) const FIRST_DOMAIN: &str = concat!(
+    "(define (domain d)\n",
+    " (:requirements :adl)\n",
+    " (:types htn_slot - object htn_object - object)\n",
+    " (:constants htn_s1 - htn_slot htn_s2 - htn_slot)\n",
+    " (:predicates (htn_top ?htn_h - htn_slot) (htn_free ?htn_h - htn_slot) (htn_before ?htn_x - htn_slot ?htn_h - htn_slot) (htn_t_t ?htn_h - htn_slot) (htn_a_a ?htn_h - htn_slot) (htn_less ?htn_x - htn_slot ?htn_h - htn_slot))\n",
+    " (:action htn_start :parameters (?htn_h - htn_slot) :precondition (and (htn_top ?htn_h) (forall (?htn_x - htn_slot) (not (htn_before ?htn_x ?htn_h)))) :effect (and (not (htn_top ?htn_h)) (htn_t_t ?htn_h)))\n",
+    " (:action htn_m_m :parameters (?htn_h - htn_slot ?htn_h1 - htn_slot) :precondition (and (htn_t_t ?htn_h) (forall (?htn_x - htn_slot) (not (htn_before ?htn_x ?htn_h))) (htn_free ?htn_h1) (forall (?htn_x - htn_slot) (not (and (htn_free ?htn_x) (htn_less ?htn_x ?htn_h1))))) :effect (and (not (htn_t_t ?htn_h)) (not (htn_free ?htn_h1)) (htn_a_a ?htn_h1) (htn_a_a ?htn_h) (forall (?htn_x - htn_slot) (when (htn_before ?htn_h ?htn_x) (htn_before ?htn_h1 ?htn_x)))))\n",
+    " (:action a :parameters (?htn_h - htn_slot) :precondition (and (htn_a_a ?htn_h) (forall (?htn_x - htn_slot) (not (htn_before ?htn_x ?htn_h)))) :effect (and (not (htn_a_a ?htn_h)) (htn_free ?htn_h) (forall (?htn_x - htn_slot) (not (htn_before ?htn_h ?htn_x)))))\n",
+    ")\n",
+);
+
+pub(crate) const FIRST_PROBLEM: &str = concat!(
+    "(define (problem p)\n",
+    " (:domain d)\n",
+    " (:objects)\n",
+    " (:init (htn_top htn_s1) (htn_free htn_s2) (htn_less htn_s1 htn_s2))\n",
+    " (:goal (and (forall (?htn_x - htn_slot) (htn_free ?htn_x))))\n",
+    ")\n",
+);
+
 pub(crate) const PLAN: &str = "(htn_start htn_s1)\n(htn_m_m htn_s1)\n(a htn_s1)\n";
 
 pub(crate) const TREE: &str = "==>\n0 a\nroot 1\n1 t -> m 0\n<==\n";

@@ -16,7 +16,7 @@ use Rattle.htn_cli.specs.Calling.{StopsGet, StopsGets, PassesInputs, StopsInputs
 use Rattle.htn_cli.specs.Inputs.{AreShort, AreWhole, EndTooLarge}
 use Rattle.htn_cli.specs.Passing.{asked_bytes, gets, puts, with_calls, CallsAre, Keeps, PassesDone, CallsBefore, PassesRefused, PassesFinding}
 use Rattle.htn_cli.specs.Refusal.{status_of, line_of}
-use Rattle.htn_cli.specs.Requests.{inputs_of, slots_given, most_slots_of, IsWithin}
+use Rattle.htn_cli.specs.Requests.{inputs_of, slots_given, most_by, most_slots_of, IsWithin}
 use Rattle.htn_cli.specs.Sent.{TakesWhole, Told}
 use Rattle.htn_cli.specs.Slots.{RefusesSlots}
 use Rattle.htn_cli.specs.Stops.{StopsTexts, StopsGiven, StopsDelivery}
@@ -103,10 +103,10 @@ stops_slots request n e old (refused.Fault place code) stops = absurd stops
 stops_slots request n e old (refused.Finding f) stops = absurd stops
 stops_slots request n e old (refused.Failure f) stops = absurd stops
 
-pub given_calls : (r : TranslationRequest) (old : Option (List Passed)) (refusal : Refusal) → StopsGiven r.numeral refusal → StopsInputs (to_translate r) old old refusal
+pub given_calls : (r : TranslationRequest) (old : Option (List Passed)) (refusal : Refusal) → StopsGiven (most_by r.rule) r.numeral refusal → StopsInputs (to_translate r) old old refusal
 given_calls r old refusal stops = go r.numeral refl stops
   where
-    go : (o : Option Word) → r.numeral ≡ o → StopsGiven o refusal → StopsInputs (to_translate r) old old refusal
+    go : (o : Option Word) → r.numeral ≡ o → StopsGiven (most_by r.rule) o refusal → StopsInputs (to_translate r) old old refusal
     go None e stops = absurd stops
     go (Some word) e stops = stops_slots (to_translate r) (number_of word) (ap (option_map number_of) e) old refusal stops
 

@@ -27,12 +27,12 @@ use Rattle.htn_cli.proofs.InputsRead.{next_longer}
 use Rattle.htn_cli.proofs.Leavings.{fault_stops}
 
 -- a number of slots that is given, or chosen, may be asked for
-pub given_in_range : (numeral : Option Word) (given : Option ℕ) → IsGiven numeral given → IfSome given IsInRange
+pub given_in_range : (numeral : Option Word) (given : Option ℕ) → IsGiven most_slots numeral given → IfSome given IsInRange
 given_in_range numeral None is = tt
 given_in_range None (Some slots) is = absurd is
 given_in_range (Some word) (Some slots) is = (is.some, is.few)
 
-pub chosen_in_range : (level : Level) (c : Compiled) (given : Option ℕ) → IfSome given IsInRange → (slots : ℕ) → IsChosen level c given slots → IsInRange slots
+pub chosen_in_range : (level : Level) (c : Compiled) (given : Option ℕ) → IfSome given IsInRange → (slots : ℕ) → IsChosen most_slots level c given slots → IsInRange slots
 chosen_in_range level c None inside slots (n, bound, are) = (are.some, are.few)
 chosen_in_range level c (Some n) inside slots e = subst IsInRange (sym e) inside
 
@@ -60,7 +60,7 @@ module _ (r : DecodeRequest) (d p plan : List ℕ) where
       fault_stops (to_decode r) (d ∷ p ∷ plan ∷ []) refusal
       (fault_among (r.domain ∷ r.problem ∷ []) (r.plan ∷ []) (IsLeastFault language.Hddl d p) (IsLeastWithPlan language.Hddl d p plan) (λ file code at is. of_problem is) refusal stops)
 
-  module _ (c : Compiled) (spelled : SpellProblem d p r.checks c) (g : Option ℕ) (is : IsGiven r.numeral g) where
+  module _ (c : Compiled) (spelled : SpellProblem d p r.checks c) (g : Option ℕ) (is : IsGiven most_slots r.numeral g) where
     third_least : (file code at : ℕ) → IsFaultOfThird plan file code at → IsLeastWithPlan language.Hddl d p plan file code at
     third_least file code at (e, f) = subst (λ z. IsLeastWithPlan language.Hddl d p plan z code at) (sym e) (of_third spelled.read.faultless f)
 
@@ -93,20 +93,20 @@ module _ (r : DecodeRequest) (d p plan : List ℕ) where
         computed_past none n bound (refused.Limit (limit.Slots m)) stops = inr (none, (c, steps, n, spell_few, bound, stops))
         computed_past none n bound _ stops = absurd stops
 
-        chosen_stops : (refusal : Refusal) → StopsChosen r.level c g refusal → Stopped refusal
+        chosen_stops : (refusal : Refusal) → StopsChosen most_slots r.level c g refusal → Stopped refusal
         chosen_stops refusal stops = go r.numeral g is stops refl
           where
-            go : (o : Option Word) (g : Option ℕ) → IsGiven o g → StopsChosen r.level c g refusal → r.numeral ≡ o → Stopped refusal
+            go : (o : Option Word) (g : Option ℕ) → IsGiven most_slots o g → StopsChosen most_slots r.level c g refusal → r.numeral ≡ o → Stopped refusal
             go o (Some g) is stops e = absurd stops
             go (Some word) None is stops e = absurd is
             go None None is (inl stops) e = bound_stops e refusal stops
             go None None is (inr (n, bound, stops)) e = computed_past e n bound refusal stops
 
-        module _ (slots : ℕ) (chosen : IsChosen r.level c g slots) where
+        module _ (slots : ℕ) (chosen : IsChosen most_slots r.level c g slots) where
           for_slots : IsForSlots r d p plan c steps slots
           for_slots = go r.numeral g is chosen refl
             where
-              go : (o : Option Word) (g : Option ℕ) → IsGiven o g → IsChosen r.level c g slots → r.numeral ≡ o → IsForSlots r d p plan c steps slots
+              go : (o : Option Word) (g : Option ℕ) → IsGiven most_slots o g → IsChosen most_slots r.level c g slots → r.numeral ≡ o → IsForSlots r d p plan c steps slots
               go None None is (n, bound, are) e =
                   record { spelled = spell_few; slots_are = subst (λ z. AreSlotsOf r.level c z slots) (sym e) (subst (IsBoundAt r.level c) (sym are.same) bound); some_slot = are.some; few_slots = are.few }
               go None (Some g) is chosen e = absurd is

@@ -3,6 +3,7 @@ use Rattle.std.proofs.Common.{ℕ, ◌≡◌, ◌≤◌, ◌++◌, ◌∷◌, Li
 use Rattle.htn_base.specs.Limits.{most_slots}
 use Rattle.outside_io.specs.Sink.{SinkState}
 use Rattle.plan_model.specs.declared.options.Checks.{Checks}
+use Rattle.plan_model.specs.declared.options.Slots.{Slots}
 use Rattle.plan_model.specs.declared.options.Style.{Style}
 use Rattle.plan_model.specs.declared.options.Style.TheVariants.{Adl}
 use Rattle.plan_model.specs.declared.steps.GroundAction.{GroundAction}
@@ -14,13 +15,15 @@ use Rattle.plan_model.specs.plan_meaning.Compilation.{IsCompiled}
 use Rattle.plan_texts.specs.FirstSeen.{IsHddlOf}
 use Rattle.plan_texts.specs.PrintedTexts.{domain_text, problem_text}
 use Rattle.slot_encoding.specs.Existence.{HasEncodedValue}
-use Rattle.slot_encoding.specs.Printed.{IsPrinted}
+use Rattle.slot_encoding.specs.Printed.{IsPrinted, IsPrintedBy}
 use Rattle.slot_encoding.proofs.existence.Encoded.{has_encoded_value}
 use Rattle.slot_encoding.proofs.words.EncodedIsPrintable.{countable_printable}
-use Rattle.plan_proof.specs.Headline.{Headline, SpellsSolution}
+use Rattle.plan_proof.specs.Headline.{Headline, HeadlineBy, SpellsSolution}
 use Rattle.plan_proof.specs.OneGraph.{HaveOneGraph}
 use Rattle.plan_proof.proofs.one.OneGraph.{one_graph}
-use Rattle.plan_proof.proofs.values.Headlines.{printed_too, headline_of}
+use Rattle.plan_proof.proofs.values.Headlines.{headline_of}
+use Rattle.first_slots.specs.LowestSpelling.{SpellingBy}
+use Rattle.first_slots.proofs.Headlines.{printed_by-rule, headline_by-rule}
 use Rattle.bound_calc.specs.NoBound.{spaced}
 use Rattle.ground_bound.specs.NoGroundBound.{most_reached, IsAtMost}
 use Rattle.ground_answers.specs.GroundLaws.{AreGroundAlike, ValuesHaveOneGroundBound}
@@ -84,11 +87,11 @@ module _ (d p : List ℕ) (checks : Checks) (c : Compiled) (source : SpellProble
         )
 
   -- two texts that are printed for one of them have the meaning of each
-  pub faithful_of_each : (slots : ℕ) (style : Style) (value : Pddl) (h : Hddl) (k : Compiled) → IsHddlOf d p h → IsPrinted h checks k slots style value
-      → Headline d p checks slots (domain_text value) (problem_text value)
-  faithful_of_each slots style value h k s printed =
-      let here = printed_too d p h source.value checks k c slots style value s source.read.spelled printed source.compiled_is in
-      headline_of d p source.value checks c slots style value source.read.spelled here source.read.ordered
+  pub faithful_of_each : (rule : Slots) (slots : ℕ) (style : Style) (value : Pddl) (h : Hddl) (k : Compiled) → IsHddlOf d p h → IsPrintedBy rule h checks k slots style value
+      → HeadlineBy (SpellingBy rule) d p checks slots (domain_text value) (problem_text value)
+  faithful_of_each rule slots style value h k s printed =
+      let here = printed_by-rule d p h source.value checks k c slots style value s source.read.spelled source.compiled_is rule printed in
+      headline_by-rule d p source.value checks c slots style value source.read.spelled source.read.ordered rule here
 
   -- and some texts are printed
   module _ (slots : ℕ) (some : 1 ≤ slots) (few : slots ≤ most_slots) where

@@ -24,18 +24,18 @@ use Rattle.htn_cli.proofs.Decodings.{fault_among}
 use Rattle.htn_cli.proofs.Leavings.{fault_stops}
 
 -- the number of slots that is given is that of the numeral, and is not too great
-pub given_few : (numeral : Option Word) (given : Option ℕ) → IsGiven numeral given → IfSome given (λ n. n ≤ most_slots)
+pub given_few : (numeral : Option Word) (given : Option ℕ) → IsGiven most_slots numeral given → IfSome given (λ n. n ≤ most_slots)
 given_few numeral None is = tt
 given_few None (Some slots) is = absurd is
 given_few (Some word) (Some slots) is = is.few
 
-given_same : (numeral : Option Word) (given : Option ℕ) → IsGiven numeral given → given ≡ option_map number_of numeral
+given_same : (numeral : Option Word) (given : Option ℕ) → IsGiven most_slots numeral given → given ≡ option_map number_of numeral
 given_same None None is = refl
 given_same (Some word) (Some slots) is = ap Some is.same
 given_same None (Some slots) is = absurd is
 given_same (Some word) None is = absurd is
 
-none_given : (numeral : Option Word) (given : Option ℕ) → IsGiven numeral given → given ≡ None → numeral ≡ None
+none_given : (numeral : Option Word) (given : Option ℕ) → IsGiven most_slots numeral given → given ≡ None → numeral ≡ None
 none_given None given is e = refl
 none_given (Some word) None is e = absurd is
 none_given (Some word) (Some slots) is e = absurd (cc)
@@ -54,7 +54,7 @@ module _ (r : EncodeRequest) (d p hplan : List ℕ) where
       fault_stops (to_encode r) (d ∷ p ∷ hplan ∷ []) refusal
       (fault_among (r.domain ∷ r.problem ∷ []) (r.hplan ∷ []) (IsLeastFault language.Hddl d p) (IsLeastWithHPlan d p hplan) (λ file code at is. of_problem is) refusal stops)
 
-  module _ (c : Compiled) (spelled : SpellProblem d p r.checks c) (g : Option ℕ) (is : IsGiven r.numeral g) where
+  module _ (c : Compiled) (spelled : SpellProblem d p r.checks c) (g : Option ℕ) (is : IsGiven most_slots r.numeral g) where
     third_least : (file code at : ℕ) → IsFaultOfHPlan hplan file code at → IsLeastWithHPlan d p hplan file code at
     third_least file code at (e, f) = subst (λ z. IsLeastWithHPlan d p hplan z code at) (sym e) (of_third spelled.read.faultless f)
 

@@ -22,6 +22,7 @@ use Rattle.htn_cli.specs.declared.refusal.Failure.TheVariants as failure
 use Rattle.htn_cli.specs.declared.refusal.Limit.TheVariants as limit
 use Rattle.htn_cli.specs.declared.refusal.Refusal.{Refusal}
 use Rattle.htn_cli.specs.declared.refusal.Refusal.TheVariants as refused
+use Rattle.htn_cli.proofs.Rules.{few_by}
 
 -- no refusal ends as a run that was done
 pub never_done : (refusal : Refusal) → status_of refusal ≡ status.Done → ⊥
@@ -79,7 +80,7 @@ module _ (words : List Word) (old new : FilesState) (out out' : SinkState) where
 
 -- what is printed of a request has few slots
 pub few_most : (request : Request) → most_slots_of request ≤ most_slots
-few_most (to_translate r) = omega arith
+few_most (to_translate r) = few_by r.rule
 few_most (to_bound r) = omega arith
 few_most (to_decode r) = omega arith
 few_most (to_encode r) = omega arith

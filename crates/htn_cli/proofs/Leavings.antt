@@ -27,7 +27,7 @@ use Rattle.htn_cli.specs.Levels.{IsBoundAt}
 use Rattle.htn_cli.specs.Lines.{slots_line, bound_line, valid_line}
 use Rattle.htn_cli.specs.Made.{output_of, texts_by, AreMadeWith, IsMadeWith, IsMadeFor, StopsMadeFor, manner_of, GivesOutput, NamesDiffer}
 use Rattle.htn_cli.specs.Problem.{SpellProblem}
-use Rattle.htn_cli.specs.Requests.{inputs_of, names_told, slots_given, most_slots_of, IsWithin}
+use Rattle.htn_cli.specs.Requests.{inputs_of, names_told, slots_given, most_by, most_slots_of, IsWithin}
 use Rattle.htn_cli.specs.Sent.{TakesWhole}
 use Rattle.htn_cli.specs.Slots.{RefusesSlots}
 use Rattle.htn_cli.specs.Stops.{GivesTexts, StopsReading, StopsFault, StopsTexts, StopsPlan, StopsBound, IsGiven, StopsGiven, IsChosen, StopsChosen, StopsPrinted, IsWant, StopsDelivery, StopsOutput}
@@ -40,6 +40,7 @@ use Rattle.htn_cli.specs.declared.refusal.Finding.TheVariants as finding
 use Rattle.htn_cli.specs.declared.refusal.Limit.TheVariants as limit
 use Rattle.htn_cli.specs.declared.refusal.Refusal.{Refusal}
 use Rattle.htn_cli.specs.declared.refusal.Refusal.TheVariants as refused
+use Rattle.htn_cli.proofs.Rules.{few_by}
 use Rattle.htn_cli.proofs.Printed.{translated}
 
 -- a bound is at least 1
@@ -154,10 +155,10 @@ output_within request old output is = go (gives output) is.answers
     go answer (given o within whole g fits) = within
 
 -- A number of slots that is given.
-pub given_within : (numeral : Option Word) (g : Option ℕ) → IsGiven numeral g → IfSome (option_map number_of numeral) (λ n. n ≤ most_slots)
-given_within None g is = tt
-given_within (Some word) None is = absurd is
-given_within (Some word) (Some slots) is = let e = is.same in let l = is.few in omega (arith, e, l)
+pub given_within : (most : ℕ) (numeral : Option Word) (g : Option ℕ) → IsGiven most numeral g → IfSome (option_map number_of numeral) (λ n. n ≤ most)
+given_within most None g is = tt
+given_within most (Some word) None is = absurd is
+given_within most (Some word) (Some slots) is = let e = is.same in let l = is.few in omega (arith, e, l)
 
 module _ (request : Request) (old : FilesState) where
   -- it is too great
@@ -171,10 +172,10 @@ module _ (request : Request) (old : FilesState) where
   slots_stop n e (refused.Finding f) stops = absurd stops
   slots_stop n e (refused.Failure f) stops = absurd stops
 
-  pub given_refused : (numeral : Option Word) → slots_given request ≡ option_map number_of numeral → most_slots_of request ≡ most_slots → (refusal : Refusal) → StopsGiven numeral refusal
+  pub given_refused : (numeral : Option Word) → slots_given request ≡ option_map number_of numeral → (refusal : Refusal) → StopsGiven (most_slots_of request) numeral refusal
       → StopsOutput request old old refusal
-  given_refused None e f refusal stops = absurd stops
-  given_refused (Some word) e f refusal stops = slots_stop (number_of word) e refusal (subst (λ z. RefusesSlots z (number_of word) refusal) (sym f) stops)
+  given_refused None e refusal stops = absurd stops
+  given_refused (Some word) e refusal stops = slots_stop (number_of word) e refusal stops
 
 -- the texts of what is written, for the files of these names
 pub written_texts : (names : Names) (written : Option Written) (w : Written) → w.od.now ≡ names.printed_domain → w.op.now ≡ names.printed_problem → written ≡ Some w
@@ -184,13 +185,13 @@ written_texts names written w od op e =
 
 -- A translation.
 module _ (r : TranslationRequest) where
-  pub is_within : (g : Option ℕ) → IsGiven r.numeral g → IsWithin (to_translate r)
-  is_within g is = given_within r.numeral g is
+  pub is_within : (g : Option ℕ) → IsGiven (most_by r.rule) r.numeral g → IsWithin (to_translate r)
+  is_within g is = given_within (most_by r.rule) r.numeral g is
 
-  pub given_stops : (old : FilesState) (refusal : Refusal) → StopsGiven r.numeral refusal → StopsOutput (to_translate r) old old refusal
-  given_stops old refusal stops = given_refused (to_translate r) old r.numeral refl refl refusal stops
+  pub given_stops : (old : FilesState) (refusal : Refusal) → StopsGiven (most_by r.rule) r.numeral refusal → StopsOutput (to_translate r) old old refusal
+  given_stops old refusal stops = given_refused (to_translate r) old r.numeral refl refusal stops
 
-  module _ (d p : List ℕ) (c : Compiled) (spelled : SpellProblem d p r.checks c) (g : Option ℕ) (is : IsGiven r.numeral g) where
+  module _ (d p : List ℕ) (c : Compiled) (spelled : SpellProblem d p r.checks c) (g : Option ℕ) (is : IsGiven (most_by r.rule) r.numeral g) where
     abbrev Stopped : Refusal → Type 0
     Stopped = StopsTexts (to_translate r) (d ∷ p ∷ [])
 
@@ -201,31 +202,31 @@ module _ (r : TranslationRequest) where
     bound_stops none (refused.Failure failure.Memory) stops = tt
     bound_stops none _ stops = absurd stops
 
-    computed_past : r.numeral ≡ None → (n : ℕ) → IsBoundAt r.level c n → (refusal : Refusal) → RefusesSlots most_slots n refusal → Stopped refusal
+    computed_past : r.numeral ≡ None → (n : ℕ) → IsBoundAt r.level c n → (refusal : Refusal) → RefusesSlots (most_by r.rule) n refusal → Stopped refusal
     computed_past none n bound (refused.Limit limit.Bound) stops = inr (none, (n, (c, spelled, bound), stops))
     computed_past none n bound (refused.Limit (limit.Slots m)) stops = inr (none, (n, (c, spelled, bound), stops))
     computed_past none n bound _ stops = absurd stops
 
-    pub chosen_stops : (refusal : Refusal) → StopsChosen r.level c g refusal → Stopped refusal
+    pub chosen_stops : (refusal : Refusal) → StopsChosen (most_by r.rule) r.level c g refusal → Stopped refusal
     chosen_stops refusal stops = go r.numeral g is stops refl
       where
-        go : (o : Option Word) (g : Option ℕ) → IsGiven o g → StopsChosen r.level c g refusal → r.numeral ≡ o → Stopped refusal
+        go : (o : Option Word) (g : Option ℕ) → IsGiven (most_by r.rule) o g → StopsChosen (most_by r.rule) r.level c g refusal → r.numeral ≡ o → Stopped refusal
         go o (Some g) is stops e = absurd stops
         go (Some word) None is stops e = absurd is
         go None None is (inl stops) e = bound_stops e refusal stops
         go None None is (inr (n, bound, stops)) e = computed_past e n bound refusal stops
 
-    module _ (slots : ℕ) (chosen : IsChosen r.level c g slots) where
+    module _ (slots : ℕ) (chosen : IsChosen (most_by r.rule) r.level c g slots) where
       pub for_slots : IsForSlots r d p c slots
       for_slots = go r.numeral g is chosen refl
         where
-          go : (o : Option Word) (g : Option ℕ) → IsGiven o g → IsChosen r.level c g slots → r.numeral ≡ o → IsForSlots r d p c slots
+          go : (o : Option Word) (g : Option ℕ) → IsGiven (most_by r.rule) o g → IsChosen (most_by r.rule) r.level c g slots → r.numeral ≡ o → IsForSlots r d p c slots
           go None None is (n, bound, are) e =
               record { problem_is = spelled; slots_are = subst (λ z. AreSlotsOf r.level c z slots) (sym e) (subst (IsBoundAt r.level c) (sym are.same) bound); some = are.some; few = are.few }
           go None (Some g) is chosen e = absurd is
           go (Some word) None is chosen e = absurd is
           go (Some word) (Some g) is chosen e =
-              record { problem_is = spelled; slots_are = subst (λ z. AreSlotsOf r.level c z slots) (sym e) (chosen ∙ is.same); some = subst (λ z. 1 ≤ z) (sym chosen) is.some; few = subst (λ z. z ≤ most_slots) (sym chosen) is.few }
+              record { problem_is = spelled; slots_are = subst (λ z. AreSlotsOf r.level c z slots) (sym e) (chosen ∙ is.same); some = subst (λ z. 1 ≤ z) (sym chosen) is.some; few = subst (λ z. z ≤ most_by r.rule) (sym chosen) is.few }
 
       pub print_stops : (refusal : Refusal) → StopsPrinted c (manner_of r slots) refusal → Stopped refusal
       print_stops (refused.Limit (limit.Output n)) stops = inr (c, slots, for_slots, stops)
@@ -253,15 +254,18 @@ module _ (r : TranslationRequest) where
           )
 
   -- what was made of a compiled problem
-  pub gives_made_for : (d p : List ℕ) (c : Compiled) → SpellProblem d p r.checks c → (g : Option ℕ) → IsGiven r.numeral g → (made : Made) → IsMadeFor r c g made → GivesTranslation r d p (output_of made)
+  pub gives_made_for : (d p : List ℕ) (c : Compiled) → SpellProblem d p r.checks c → (g : Option ℕ) → IsGiven (most_by r.rule) r.numeral g → (made : Made) → IsMadeFor r c g made → GivesTranslation r d p (output_of made)
   gives_made_for d p c spelled g is made (slots, chosen, made_is) = gives_translation d p c spelled g is slots chosen made made_is
 
-  pub stops_made_for : (d p : List ℕ) (c : Compiled) → SpellProblem d p r.checks c → (g : Option ℕ) → IsGiven r.numeral g → (refusal : Refusal) → StopsMadeFor r c g refusal → StopsTexts (to_translate r) (d ∷ p ∷ []) refusal
+  pub stops_made_for : (d p : List ℕ) (c : Compiled) → SpellProblem d p r.checks c → (g : Option ℕ) → IsGiven (most_by r.rule) r.numeral g → (refusal : Refusal) → StopsMadeFor r c g refusal → StopsTexts (to_translate r) (d ∷ p ∷ []) refusal
   stops_made_for d p c spelled g is refusal (inl stops) = chosen_stops d p c spelled g is refusal stops
   stops_made_for d p c spelled g is refusal (inr (slots, chosen, stops)) = print_stops d p c spelled g is slots chosen refusal stops
 
   pub translation_fits : (d p : List ℕ) (output : Output) → GivesTranslation r d p output → length output.told ≤ longest_output
-  translation_fits d p output (texts, slots, written, e) = subst (λ (z : Output). length z.told ≤ longest_output) (sym e) (slots_line_fits slots written.source.few)
+  translation_fits d p output (texts, slots, written, e) =
+      let few = few_by r.rule in
+      let less = written.source.few in
+      subst (λ (z : Output). length z.told ≤ longest_output) (sym e) (slots_line_fits slots (omega (arith, few, less)))
 
 -- A bound.
 module _ (r : BoundRequest) (d p : List ℕ) where

@@ -1,4 +1,5 @@
 pub mod Results
+pub mod Rules
 pub mod Texts
 pub mod FaultTexts
 pub mod Faulty

@@ -113,7 +113,7 @@ module _ (r : MakeRequest) where
     abbrev Stopped : Refusal → Type 0
     Stopped = StopsTexts (to_make r) []
 
-    source : (bound : ℕ) → IsComputed Lifted c bound → IsAtBound r c bound
+    source : (bound : ℕ) → IsComputed most_slots Lifted c bound → IsAtBound r c bound
     source bound computed = for_slots t made_domain p c spelled None tt bound computed
 
     pub gives_make : (made : Made) → IsMadeAtBound r c (plan_of r) made → GivesMake r (output_of made)
@@ -148,13 +148,13 @@ module _ (r : MakeRequest) where
     computed_past n bound (refused.Limit (limit.Slots m)) stops = inr (inl (refl, (n, (c, spelled, bound), stops)))
     computed_past n bound _ stops = absurd stops
 
-    counting_stops : (bound : ℕ) → IsComputed Lifted c bound → (refusal : Refusal) → StopsCounting r c (plan_of r) refusal → Stopped refusal
+    counting_stops : (bound : ℕ) → IsComputed most_slots Lifted c bound → (refusal : Refusal) → StopsCounting r c (plan_of r) refusal → Stopped refusal
     counting_stops bound computed (refused.Finding f) is = inr (inr (c, bound, source bound computed, is))
     counting_stops bound computed (refused.Limit (limit.Slots n)) (has, past) = inr (inr (c, bound, source bound computed, has, past))
     counting_stops bound computed (refused.Failure failure.Memory) stops = tt
     counting_stops bound computed _ stops = absurd stops
 
-    printing_stops : (bound : ℕ) → IsComputed Lifted c bound → (width steps : ℕ) → IsCounted c (plan_of r) width steps → (refusal : Refusal) → StopsPrinted c (manner_of t bound) refusal → Stopped refusal
+    printing_stops : (bound : ℕ) → IsComputed most_slots Lifted c bound → (width steps : ℕ) → IsCounted c (plan_of r) width steps → (refusal : Refusal) → StopsPrinted c (manner_of t bound) refusal → Stopped refusal
     printing_stops bound computed width steps is (refused.Limit (limit.Output n)) long = inr (inl (c, bound, width, steps, source bound computed, is, long))
     printing_stops bound computed width steps is (refused.Failure failure.Memory) stops = tt
     printing_stops bound computed width steps is _ stops = absurd stops

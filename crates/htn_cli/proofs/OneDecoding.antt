@@ -107,7 +107,7 @@ module _ (once : EachIsDecodedOnce) (alike : ValuesAreDecodedAlike) (ground : Va
   -- and of any number of steps
   data Decided (x : Meant) : Answer → Type 0 where
     many : (n : ℕ) → n ≡ length x.1 → most_steps < n → Decided x (refuses (refused.Limit (limit.Steps n)))
-    few : (a : Answer) → length x.1 ≤ most_steps → Follows request.level request.numeral x.0 (Decodes x) a → Decided x a
+    few : (a : Answer) → length x.1 ≤ most_steps → Follows most_slots request.level request.numeral x.0 (Decodes x) a → Decided x a
 
   decided : (x y : Meant) (a b : Answer) → Decided x a → Decided y b → TellTheSame a b
   decided x y a b (many n e past) (many m f over) =
@@ -115,7 +115,7 @@ module _ (once : EachIsDecodedOnce) (alike : ValuesAreDecodedAlike) (ground : Va
   decided x y a b (many n e past) (few c less k) = absurd (few_or_many x y n e past less)
   decided x y a b (few c less k) (many n e past) = absurd (few_or_many y x n e past less)
   decided x y a b (few c less k) (few q fewer j) =
-      one_follows ground request.level d p request.checks request.numeral (x.0, x.2.problem_is) (y.0, y.2.problem_is) (Decodes x) (Decodes y)
+      one_follows most_slots (omega arith) ground request.level d p request.checks request.numeral (x.0, x.2.problem_is) (y.0, y.2.problem_is) (Decodes x) (Decodes y)
       (λ slots one most. one_decodes slots one most x y) a b k j
 
   made : (c : Compiled) (steps : List GroundAction) (slots : ℕ) (a : Answer) (source : IsForSlots request d p l c steps slots)

@@ -36,7 +36,7 @@ use Rattle.htn_cli.specs.declared.refusal.Refusal.TheVariants as refused
 use Rattle.htn_cli.proofs.MadePlans.{made_is_sound}
 use Rattle.htn_cli.proofs.OneEncoding.{answer_by, same_answer, step_text_there}
 use Rattle.htn_cli.proofs.OneSlots.{Follows, cycle, out, within, one_follows}
-use Rattle.htn_cli.proofs.OneTranslation.{Source, long, same_prints, long_not_written, texts_of_both}
+use Rattle.htn_cli.proofs.OneTranslation.{Source, long, fully, same_prints, long_not_written, texts_of_both}
 
 -- two values that two texts spell have as many actions
 pub same_actions : (od op : List ℕ) (v w : Pddl) → SpellsPddl od op v → SpellsPddl od op w → length v.actions ≡ length w.actions
@@ -102,7 +102,7 @@ module _ (once : EachIsEncodedOnce) (alike : ValuesAreEncodedAlike) (spelled_onc
     same_output : (texts others : Texts) (n m : ℕ) (is : AreTranslated x.1.value x.0 (manner_with t made_domain p slots) texts) (are : AreTranslated y.1.value y.0 (manner_with t made_domain p slots) others)
         → n ≡ length is.value.actions → m ≡ length are.value.actions → output_for texts n slots width steps ≡ output_for others m slots width steps
     same_output texts others n m is are e f =
-        let s = texts_of_both t made_domain p x y slots is.value are.value (record { encoded = is.printed.encoded; words = is.words }) (record { encoded = are.printed.encoded; words = are.words }) in
+        let s = texts_of_both t made_domain p x y slots is.value are.value (fully t made_domain p x slots texts is) (fully t made_domain p y slots others are) in
         let there : SpellsPddl (domain_text are.value) (problem_text are.value) is.value = subst (λ (z : Type 0). z) (λ i. SpellsPddl (s.0 i) (s.1 i) is.value) (value_spelled x texts is) in
         let count : n ≡ m = e ∙ same_actions (domain_text are.value) (problem_text are.value) is.value are.value there (value_spelled y others are) ∙ sym f in
         let dl = is.domain_is ∙ s.0 ∙ sym are.domain_is in
@@ -146,7 +146,7 @@ module _ (once : EachIsEncodedOnce) (alike : ValuesAreEncodedAlike) (spelled_onc
       one_sum x y slots wide more a b (subst (λ z. Sums x slots wide z a) s.1 (subst (λ z. Sums x slots z steps a) s.0 sums)) also
 
   abbrev Comes : Read → Answer → Type 0
-  Comes x = Follows Lifted None x.0 (Plans x)
+  Comes x = Follows most_slots Lifted None x.0 (Plans x)
 
   module _ (c : Compiled) (bound : ℕ) (source : IsAtBound request c bound) where
     abbrev here : Read
@@ -200,4 +200,4 @@ module _ (once : EachIsEncodedOnce) (alike : ValuesAreEncodedAlike) (spelled_onc
   pub one_made : (a b : Answer) → MakeComes request a → MakeComes request b → TellTheSame a b
   one_made a b is also =
       let x = comes a is in let y = comes b also in
-      one_follows ground Lifted made_domain p Leaf None x.0 y.0 (Plans x.0) (Plans y.0) (one_plan x.0 y.0) a b x.1 y.1
+      one_follows most_slots (omega arith) ground Lifted made_domain p Leaf None x.0 y.0 (Plans x.0) (Plans y.0) (one_plan x.0 y.0) a b x.1 y.1

@@ -1,6 +1,7 @@
 -- Two HDDL texts have one meaning: one bound or one named cycle, and one pair of printed texts.
 use Rattle.std.proofs.Common.{ℕ, ◌≡◌, List, [], ◌∷◌, refl, sym, ap, ◌∙◌, arith}
 use Rattle.plan_model.specs.declared.options.Checks.{Checks}
+use Rattle.plan_model.specs.declared.options.Slots.{Slots}
 use Rattle.plan_model.specs.declared.options.Style.{Style}
 use Rattle.plan_model.specs.declared.values.Compiled.{Compiled}
 use Rattle.plan_model.specs.declared.values.Pddl.{Pddl}
@@ -10,10 +11,10 @@ use Rattle.plan_model.specs.plan_meaning.Strata.{Edge}
 use Rattle.slot_machine.proofs.bound_laws.BoundedProblem.{bounded_is_tail_recursive}
 use Rattle.slot_machine.proofs.bound_laws.OrCycle.{not_both}
 use Rattle.plan_proof.specs.OneGraph.{HaveOneGraph, HaveOneBound, HaveOneNamedCycle}
-use Rattle.slot_encoding.specs.encoded_texts.FullyEncoded.{IsFullyEncoded}
-use Rattle.plan_proof.specs.OneText.{AreTextsFor}
+use Rattle.slot_encoding.specs.encoded_texts.FullyEncoded.{IsFullyEncodedBy}
+use Rattle.plan_proof.specs.OneText.{AreTextsBy}
 use Rattle.plan_proof.proofs.one.OneGraph.{one_graph, one_bound, one_cycle}
-use Rattle.plan_proof.proofs.one.OneText.{texts-same}
+use Rattle.first_slots.proofs.Texts.{one_pair}
 use Rattle.bound_calc.specs.stratifier.NamedCycle.{IsNamed}
 use Rattle.bound_calc.specs.stratifier.CycleWords.{cycle_words}
 use Rattle.bound_calc.specs.NoBound.{NamesCycle, spaced}
@@ -53,8 +54,8 @@ module _ (d p : List ℕ) (checks : Checks) (c k : Compiled) (one : SpellProblem
   lifted_either words n (e ∷ walk, named, is) bound =
       not_both k (bounded_is_tail_recursive other.value checks k other.compiled_is n bound) e walk ((graph.named_cycle e walk).0 named)
 
-  module _ (slots : ℕ) (style : Style) where
-    texts_here : (v : Pddl) → IsFullyEncoded c slots style v → AreTextsFor d p checks slots style (domain_text v) (problem_text v)
+  module _ (rule : Slots) (slots : ℕ) (style : Style) where
+    texts_here : (v : Pddl) → IsFullyEncodedBy rule c slots style v → AreTextsBy rule d p checks slots style (domain_text v) (problem_text v)
     texts_here v is = record {
       read = one.value;
       spelled = one.read.spelled;
@@ -67,7 +68,7 @@ module _ (d p : List ℕ) (checks : Checks) (c k : Compiled) (one : SpellProblem
       problem_is = refl;
     }
 
-    texts_there : (v : Pddl) → IsFullyEncoded k slots style v → AreTextsFor d p checks slots style (domain_text v) (problem_text v)
+    texts_there : (v : Pddl) → IsFullyEncodedBy rule k slots style v → AreTextsBy rule d p checks slots style (domain_text v) (problem_text v)
     texts_there v is = record {
       read = other.value;
       spelled = other.read.spelled;
@@ -80,9 +81,9 @@ module _ (d p : List ℕ) (checks : Checks) (c k : Compiled) (one : SpellProblem
       problem_is = refl;
     }
 
-    pub texts_same : (v w : Pddl) → IsFullyEncoded c slots style v → IsFullyEncoded k slots style w → (domain_text v ≡ domain_text w) × (problem_text v ≡ problem_text w)
+    pub texts_same : (v w : Pddl) → IsFullyEncodedBy rule c slots style v → IsFullyEncodedBy rule k slots style w → (domain_text v ≡ domain_text w) × (problem_text v ≡ problem_text w)
     texts_same v w is also =
-        texts-same d p checks slots style (domain_text v) (problem_text v) (domain_text w) (problem_text w) (texts_here v is) (texts_there w also)
+        one_pair rule d p checks slots style (domain_text v) (problem_text v) (domain_text w) (problem_text w) (texts_here v is) (texts_there w also)
 
 -- At a level.
 module _ (alike : ValuesHaveOneGroundBound) (level : Level) (d p : List ℕ) (checks : Checks) (c k : Compiled) (one : SpellProblem d p checks c) (other : SpellProblem d p checks k) where

@@ -46,19 +46,19 @@ by_count = refuses (refused.Limit limit.Ground)
 
 -- What follows from a compiled problem: more is reached than is counted, a cycle that is named or a bound past a limit, where no number of slots is given, or else what is
 -- made with so many slots.
-pub data Follows (level : Level) (numeral : Option Word) (c : Compiled) (Makes : ℕ → Answer → Type 0) : Answer → Type 0 where
-  much : numeral ≡ None → IsPastCount level c → Follows level numeral c Makes by_count
-  cycle : (words : List ℕ) → numeral ≡ None → NamesCycleAt level c words → Follows level numeral c Makes (by_cycle words)
-  out : (n : ℕ) (refusal : Refusal) → numeral ≡ None → IsBoundAt level c n → RefusesSlots most_slots n refusal
-      → Follows level numeral c Makes (refuses refusal)
-  within : (slots : ℕ) (a : Answer) → AreSlotsOf level c numeral slots → 1 ≤ slots → slots ≤ most_slots → Makes slots a
-      → Follows level numeral c Makes a
+pub data Follows (most : ℕ) (level : Level) (numeral : Option Word) (c : Compiled) (Makes : ℕ → Answer → Type 0) : Answer → Type 0 where
+  much : numeral ≡ None → IsPastCount level c → Follows most level numeral c Makes by_count
+  cycle : (words : List ℕ) → numeral ≡ None → NamesCycleAt level c words → Follows most level numeral c Makes (by_cycle words)
+  out : (n : ℕ) (refusal : Refusal) → numeral ≡ None → IsBoundAt level c n → RefusesSlots most n refusal
+      → Follows most level numeral c Makes (refuses refusal)
+  within : (slots : ℕ) (a : Answer) → AreSlotsOf level c numeral slots → 1 ≤ slots → slots ≤ most → Makes slots a
+      → Follows most level numeral c Makes a
 
 -- with each number of slots two problems make one thing
-abbrev pub MakeOne : (P Q : ℕ → Answer → Type 0) → Type 0
-MakeOne P Q = (slots : ℕ) → 1 ≤ slots → slots ≤ most_slots → (a b : Answer) → P slots a → Q slots b → TellTheSame a b
+abbrev pub MakeOne : ℕ → (P Q : ℕ → Answer → Type 0) → Type 0
+MakeOne most P Q = (slots : ℕ) → 1 ≤ slots → slots ≤ most → (a b : Answer) → P slots a → Q slots b → TellTheSame a b
 
-module _ (alike : ValuesHaveOneGroundBound) (level : Level) (d p : List ℕ) (checks : Checks) (numeral : Option Word) where
+module _ (most : ℕ) (most_few : most ≤ most_slots) (alike : ValuesHaveOneGroundBound) (level : Level) (d p : List ℕ) (checks : Checks) (numeral : Option Word) where
   abbrev Source : Type 0
   Source = (c : Compiled) × SpellProblem d p checks c
 
@@ -78,13 +78,13 @@ module _ (alike : ValuesHaveOneGroundBound) (level : Level) (d p : List ℕ) (ch
   abbrev much_no_cycle : (x y : Source) (words : List ℕ) → IsPastCount level x.0 → NamesCycleAt level y.0 words → ⊥
   much_no_cycle x y words = past_or_cycle alike level d p checks x.0 y.0 x.1 y.1 words
 
-  past_or_within : (x y : Source) (n slots : ℕ) (refusal : Refusal) → numeral ≡ None → IsBoundAt level x.0 n → RefusesSlots most_slots n refusal
-      → AreSlotsOf level y.0 numeral slots → slots ≤ most_slots → ⊥
+  past_or_within : (x y : Source) (n slots : ℕ) (refusal : Refusal) → numeral ≡ None → IsBoundAt level x.0 n → RefusesSlots most n refusal
+      → AreSlotsOf level y.0 numeral slots → slots ≤ most → ⊥
   past_or_within x y n slots refusal e l past s few =
-      let same = slots_by x y None n slots l (bound_of y slots e s) in let many = past_few most_slots n (omega arith) refusal past in omega (arith, same, many, few)
+      let same = slots_by x y None n slots l (bound_of y slots e s) in let many = past_few most n most_few refusal past in omega (arith, same, many, few)
 
-  pub one_follows : (x y : Source) (P Q : ℕ → Answer → Type 0) → MakeOne P Q → (a b : Answer) → Follows level numeral x.0 P a
-      → Follows level numeral y.0 Q b → TellTheSame a b
+  pub one_follows : (x y : Source) (P Q : ℕ → Answer → Type 0) → MakeOne most P Q → (a b : Answer) → Follows most level numeral x.0 P a
+      → Follows most level numeral y.0 Q b → TellTheSame a b
   one_follows x y P Q one a b (much e m) (much f o) = record { status = refl; line = refl; output = refl }
   one_follows x y P Q one a b (much e m) (cycle words f k) = absurd (much_no_cycle x y words m k)
   one_follows x y P Q one a b (much e m) (out n c f l o) = absurd (much_not x y n m l)
@@ -97,7 +97,7 @@ module _ (alike : ValuesHaveOneGroundBound) (level : Level) (d p : List ℕ) (ch
   one_follows x y P Q one a b (cycle words e k) (out n c f l o) = absurd (cycle_not x y words n k l)
   one_follows x y P Q one a b (cycle words e k) (within slots c s some few q) = absurd (cycle_not x y words slots k (bound_of y slots e s))
   one_follows x y P Q one a b (out n c f l o) (cycle words e k) = absurd (cycle_not y x words n k l)
-  one_follows x y P Q one a b (out n c e l o) (out m q f k u) = one_past most_slots n m (slots_by x y None n m l k) c q o u
+  one_follows x y P Q one a b (out n c e l o) (out m q f k u) = one_past most n m (slots_by x y None n m l k) c q o u
   one_follows x y P Q one a b (out n c e l o) (within slots q s some few r) = absurd (past_or_within x y n slots c e l o s few)
   one_follows x y P Q one a b (within slots c s some few q) (cycle words e k) = absurd (cycle_not y x words slots k (bound_of x slots e s))
   one_follows x y P Q one a b (within slots c s some few q) (out n r e l o) = absurd (past_or_within y x n slots r e l o s few)

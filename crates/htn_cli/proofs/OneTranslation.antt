@@ -4,19 +4,21 @@ use Rattle.htn_base.specs.Limits.{longest_output}
 use Rattle.plan_model.specs.declared.values.Pddl.{Pddl}
 use Rattle.plan_model.specs.declared.values.Compiled.{Compiled}
 use Rattle.plan_texts.specs.PrintedTexts.{domain_text, problem_text}
-use Rattle.slot_encoding.specs.encoded_texts.FullyEncoded.{IsFullyEncoded}
+use Rattle.slot_encoding.specs.encoded_texts.FullyEncoded.{IsFullyEncodedBy}
 use Rattle.ground_answers.specs.GroundLaws.{ValuesHaveOneGroundBound}
 use Rattle.command_words.specs.Words.{TranslationRequest}
 use Rattle.htn_cli.specs.Answer.{Output, Answer, refuses, gives}
 use Rattle.htn_cli.specs.OneAnswer.{TellTheSame}
 use Rattle.htn_cli.specs.Problem.{SpellProblem}
 use Rattle.htn_cli.specs.Refusal.{line_of}
+use Rattle.htn_cli.specs.Requests.{most_by}
 use Rattle.htn_cli.specs.Texts.{Texts, IsFirstTooLong, AreTranslated, AreTooLong}
 use Rattle.htn_cli.specs.Translation.{manner_with, IsForSlots, RefusesTranslation, GivesTranslation, translation_output}
 use Rattle.htn_cli.specs.declared.refusal.Finding.TheVariants as finding
 use Rattle.htn_cli.specs.declared.refusal.Limit.TheVariants as limit
 use Rattle.htn_cli.specs.declared.refusal.Refusal.{Refusal}
 use Rattle.htn_cli.specs.declared.refusal.Refusal.TheVariants as refused
+use Rattle.htn_cli.proofs.Rules.{few_by, fully_of}
 use Rattle.htn_cli.proofs.OneProblem.{texts_same}
 use Rattle.htn_cli.proofs.OneSlots.{Follows, much, cycle, out, within, one_follows}
 
@@ -45,13 +47,17 @@ module _ (request : TranslationRequest) (d p : List ℕ) where
     written : (texts : Texts) (output : Output) → AreTranslated x.1.value x.0 (manner_with request d p slots) texts → output ≡ translation_output request.names texts slots
         → Prints x slots (gives output)
 
-  pub texts_of_both : (x y : Source) (slots : ℕ) (v w : Pddl) → IsFullyEncoded x.0 slots request.style v → IsFullyEncoded y.0 slots request.style w → (domain_text v ≡ domain_text w) × (problem_text v ≡ problem_text w)
-  texts_of_both x y slots v w e f = texts_same d p request.checks x.0 y.0 x.1 y.1 slots request.style v w e f
+  pub texts_of_both : (x y : Source) (slots : ℕ) (v w : Pddl) → IsFullyEncodedBy request.rule x.0 slots request.style v → IsFullyEncodedBy request.rule y.0 slots request.style w → (domain_text v ≡ domain_text w) × (problem_text v ≡ problem_text w)
+  texts_of_both x y slots v w e f = texts_same d p request.checks x.0 y.0 x.1 y.1 request.rule slots request.style v w e f
+
+  -- what is translated is encoded over all its words
+  pub fully : (x : Source) (slots : ℕ) (texts : Texts) (t : AreTranslated x.1.value x.0 (manner_with request d p slots) texts) → IsFullyEncodedBy request.rule x.0 slots request.style t.value
+  fully x slots texts t = fully_of request.rule x.1.value request.checks x.0 slots request.style t.value t.printed t.words
 
   pub long_not_written : (x y : Source) (slots n : ℕ) (texts : Texts) → AreTooLong x.0 (manner_with request d p slots) n → AreTranslated y.1.value y.0 (manner_with request d p slots) texts → ⊥
   long_not_written x y slots n texts l t =
       let v = l.encoded in
-      let e = texts_of_both x y slots v.value t.value (record { encoded = v.encoded; words = v.words }) (record { encoded = t.printed.encoded; words = t.words }) in
+      let e = texts_of_both x y slots v.value t.value (record { encoded = v.encoded; words = v.words }) (fully y slots texts t) in
       let dl = ap length (e.0 ∙ sym t.domain_is) in
       let pl = ap length (e.1 ∙ sym t.problem_is) in
       let df = t.domain_fits in
@@ -69,14 +75,14 @@ module _ (request : TranslationRequest) (d p : List ℕ) where
   same_prints x y slots a b (long n l) (written texts o t e) = absurd (long_not_written x y slots n texts l t)
   same_prints x y slots a b (written texts o t e) (long n l) = absurd (long_not_written y x slots n texts l t)
   same_prints x y slots a b (written texts o t e) (written more q u f) =
-      let s = texts_of_both x y slots t.value u.value (record { encoded = t.printed.encoded; words = t.words }) (record { encoded = u.printed.encoded; words = u.words }) in
+      let s = texts_of_both x y slots t.value u.value (fully x slots texts t) (fully y slots more u) in
       let dl = t.domain_is ∙ s.0 ∙ sym u.domain_is in
       let pl = t.problem_is ∙ s.1 ∙ sym u.problem_is in
       let same : o ≡ q = e ∙ (λ i. translation_output request.names (record { domain = dl i; problem = pl i }) slots) ∙ sym f in
       record { status = refl; line = refl; output = ap Some same }
 
   abbrev Comes : Source → Answer → Type 0
-  Comes x = Follows request.level request.numeral x.0 (Prints x)
+  Comes x = Follows (most_by request.rule) request.level request.numeral x.0 (Prints x)
 
   printed : (c : Compiled) (slots : ℕ) (a : Answer) (source : IsForSlots request d p c slots) → Prints (c, source.problem_is) slots a → (x : Source) × Comes x a
   printed c slots a source prints = ((c, source.problem_is), within slots a source.slots_are source.some source.few prints)
@@ -100,4 +106,4 @@ module _ (request : TranslationRequest) (d p : List ℕ) where
       → TellTheSame a b
   one_translated alike a b is also =
       let x = comes a is in let y = comes b also in
-      one_follows alike request.level d p request.checks request.numeral x.0 y.0 (Prints x.0) (Prints y.0) (λ slots some few. same_prints x.0 y.0 slots) a b x.1 y.1
+      one_follows (most_by request.rule) (few_by request.rule) alike request.level d p request.checks request.numeral x.0 y.0 (Prints x.0) (Prints y.0) (λ slots some few. same_prints x.0 y.0 slots) a b x.1 y.1

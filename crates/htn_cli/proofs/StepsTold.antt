@@ -1,6 +1,8 @@
 -- Steps that were told: what is true of one value of the two texts is true of each.
 use Rattle.std.proofs.Common.{ℕ, ◌≡◌, ◌≤◌, ◌↔◌, List, [], ◌∷◌, Contains, Option, Some, refl, sym, ◌∙◌, subst, inl, inr, ⊎_elim, arith}
 use Rattle.outside_io.specs.Sink.{SinkState}
+use Rattle.plan_model.specs.declared.options.Slots.{Slots}
+use Rattle.plan_model.specs.declared.options.Slots.TheVariants.{Any, First}
 use Rattle.plan_model.specs.declared.steps.GroundAction.{GroundAction}
 use Rattle.plan_model.specs.declared.values.Compiled.{Compiled}
 use Rattle.plan_model.specs.declared.values.Hddl.{Hddl}
@@ -26,6 +28,8 @@ use Rattle.plan_encoder.specs.Calls.{lines_of, words, ShowsUnderSomeIds}
 use Rattle.plan_encoder.specs.Laws.{IsOf, SomeSolutionShows}
 use Rattle.plan_encoder.proofs.ShownLines.{shown_are_lines}
 use Rattle.placements.specs.Laws.{IsRefused}
+use Rattle.plan_proof.specs.Headline.{SpellsSolutionBy}
+use Rattle.first_slots.specs.LowestSpelling.{SpellingBy}
 use Rattle.placements.proofs.PlacedPlans.{placed_are_solutions}
 use Rattle.placements.proofs.RefusedPlans.{refused_are_shown_by_none}
 use Rattle.step_texts.specs.StepTexts.{IsSpelled, slots_for, steps_text}
@@ -158,6 +162,11 @@ module _ (encoded : ValuesAreEncodedAlike) (request : EncodeRequest) (d p hplan 
     renumbered : IsRenumbering placed.1.0 (lines_of plan) (lines_of once.plan)
     renumbered = subst (λ z. IsRenumbering placed.1.0 (lines_of plan) z) (sym lines_are) placed.1.1
 
+    -- they are spelled with the lowest free slots, so with free ones by each rule
+    by_rule : (rule : Slots) → SpellsSolutionBy (SpellingBy rule) c slots steps
+    by_rule Any = (is.tree, is.order, is.slot, (is.acts, is.lowest.spells, is.steps_are), placed.0)
+    by_rule First = (is.tree, is.order, is.slot, record { spelling = (is.acts, is.lowest.spells, is.steps_are); lowest = is.lowest.lowest }, placed.0)
+
     pub steps_here : (out out' : SinkState) → TakesWhole (steps_text width steps) out out' → TellsSteps request d p hplan out out'
     steps_here out out' told = record {
       plan = plan;
@@ -172,8 +181,6 @@ module _ (encoded : ValuesAreEncodedAlike) (request : EncodeRequest) (d p hplan 
       shows = each_shown;
       new = placed.1.0;
       renumbered = renumbered;
-      is_plan = λ h k s compiled style value printed. (
-          let x = each_shown h k s compiled in
-          ((faithful_of_each d p request.checks c source slots style value h k s printed h k s compiled).plans steps).1 (x.tree, x.order, x.slot, x.spelled, x.solution)
-          );
+      is_plan = λ h k s compiled rule style value printed.
+          ((faithful_of_each d p request.checks c source rule slots style value h k s printed source.value c source.read.spelled source.compiled_is).plans steps).1 (by_rule rule);
     }

@@ -1,6 +1,7 @@
 -- A tree that was told, or a list that was said to spell none: what is true of one value of the two texts is true of each.
 use Rattle.std.proofs.Common.{ℕ, List, arith}
 use Rattle.outside_io.specs.Sink.{SinkState}
+use Rattle.plan_model.specs.declared.options.Slots.TheVariants.{Any}
 use Rattle.plan_model.specs.declared.steps.GroundAction.{GroundAction}
 use Rattle.plan_model.specs.declared.values.Compiled.{Compiled}
 use Rattle.plan_model.specs.declared.values.Hddl.{Hddl}
@@ -60,7 +61,7 @@ module _ (alike : ValuesAreDecodedAlike) (ground : ValuesHaveOneGroundBound) (re
     only_one = λ h k s compiled. (each_faithful d p request.checks c source slots is.some_slot is.few_slots h k s compiled).only_one steps;
     is_plan = λ h k s compiled style value printed. (
         let (shown, x, e) = have_text text has h k s compiled in
-        ((faithful_of_each d p request.checks c source slots style value h k s printed h k s compiled).plans steps).1 (x.tree, x.order, x.slot, x.spelled, x.solution)
+        ((faithful_of_each d p request.checks c source Any slots style value h k s printed h k s compiled).plans steps).1 (x.tree, x.order, x.slot, x.spelled, x.solution)
         );
   }
 

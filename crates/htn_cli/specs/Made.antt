@@ -7,6 +7,7 @@ use Rattle.htn_cli.specs.Answer.{Text, Output, gives}
 use Rattle.htn_cli.specs.Answers.{IsAnswer}
 use Rattle.htn_cli.specs.Lines.{slots_line}
 use Rattle.htn_cli.specs.Printing.{AreWhole}
+use Rattle.htn_cli.specs.Requests.{most_by}
 use Rattle.htn_cli.specs.Stops.{IsChosen, StopsChosen, StopsPrinted}
 use Rattle.htn_cli.specs.Texts.{texts_of}
 use Rattle.htn_cli.specs.declared.manner.Manner.{Manner}
@@ -32,7 +33,7 @@ NamesDiffer made = IfSome made.written (λ written. written.od.now ≢ written.o
 
 module _ (request : TranslationRequest) where
   abbrev pub manner_of : ℕ → Manner
-  manner_of slots = record { slots = slots; style = request.style; checks = request.checks }
+  manner_of slots = record { slots = slots; rule = request.rule; style = request.style; checks = request.checks }
 
   -- the texts of a problem with so many slots, for the files of the request, and their line
   module _ (compiled : Compiled) (slots : ℕ) where
@@ -48,12 +49,12 @@ module _ (request : TranslationRequest) where
   -- with the number of slots that is given, or else computed
   module _ (compiled : Compiled) (number : Option ℕ) where
     abbrev pub IsMadeFor : Made → Type 0
-    IsMadeFor made = (slots : ℕ) × IsChosen request.level compiled number slots × IsMadeWith compiled slots made
+    IsMadeFor made = (slots : ℕ) × IsChosen (most_by request.rule) request.level compiled number slots × IsMadeWith compiled slots made
 
     abbrev pub StopsMadeFor : Refusal → Type 0
     StopsMadeFor refusal =
-        StopsChosen request.level compiled number refusal
-        ⊎ ((slots : ℕ) × IsChosen request.level compiled number slots × StopsPrinted compiled (manner_of slots) refusal)
+        StopsChosen (most_by request.rule) request.level compiled number refusal
+        ⊎ ((slots : ℕ) × IsChosen (most_by request.rule) request.level compiled number slots × StopsPrinted compiled (manner_of slots) refusal)
 
 -- what was made is the answer to a request, and nothing was written yet
 pub record GivesOutput (request : Request) (old new : FilesState) (made : Made) : Type 0 where

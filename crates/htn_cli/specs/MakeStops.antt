@@ -62,7 +62,7 @@ module _ (request : MakeRequest) (compiled : Compiled) (plan : HPlan) where
 
   -- and with as many as the bound
   abbrev pub IsMadeAtBound : Made → Type 0
-  IsMadeAtBound made = (bound : ℕ) × IsComputed Lifted compiled bound × IsSummedUp bound made
+  IsMadeAtBound made = (bound : ℕ) × IsComputed most_slots Lifted compiled bound × IsSummedUp bound made
 
   abbrev pub StopsAtBound : Refusal → Type 0
-  StopsAtBound refusal = StopsComputed Lifted compiled refusal ⊎ ((bound : ℕ) × IsComputed Lifted compiled bound × StopsSummingUp bound refusal)
+  StopsAtBound refusal = StopsComputed most_slots Lifted compiled refusal ⊎ ((bound : ℕ) × IsComputed most_slots Lifted compiled bound × StopsSummingUp bound refusal)

@@ -5,6 +5,7 @@ use Rattle.htn_base.specs.Limits.{most_slots, longest_output}
 use Rattle.text_forms.specs.sheets.Sheets.{capped}
 use Rattle.plan_model.specs.declared.options.Style.TheVariants.{Adl}
 use Rattle.plan_model.specs.declared.options.Checks.TheVariants.{Leaf}
+use Rattle.plan_model.specs.declared.options.Slots.TheVariants.{Any}
 use Rattle.plan_model.specs.declared.values.Compiled.{Compiled}
 use Rattle.hplan_text.specs.declared.values.HPlan.{HPlan}
 use Rattle.step_texts.specs.declared.count.StepCount.TheVariants as count
@@ -50,6 +51,7 @@ module _ (request : MakeRequest) where
     level = Lifted;
     style = Adl;
     checks = Leaf;
+    rule = Any;
   }
 
   -- the problem that they spell has this bound, which is not past a limit

@@ -9,6 +9,6 @@ use Rattle.htn_cli.specs.declared.manner.Manner.{Manner}
 
 -- the texts are those of an encoded value, and neither is too long
 pub record AreWhole (compiled : Compiled) (manner : Manner) (texts : Texts) : Type 0 where
-  pub printed : ArePrinted compiled manner.slots manner.style texts.domain texts.problem
+  pub printed : ArePrinted manner.rule compiled manner.slots manner.style texts.domain texts.problem
   pub domain_fits : length texts.domain ≤ longest_output
   pub problem_fits : length texts.problem ≤ longest_output

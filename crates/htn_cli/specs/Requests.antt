@@ -2,6 +2,8 @@
 -- Source: this project's.
 use Rattle.std.specs.Prelude.{ℕ, ◌*◌, ◌≤◌, List, [], ◌∷◌, Option, Some, None, IfSome, codes, option_map}
 use Rattle.htn_base.specs.Limits.{most_slots}
+use Rattle.plan_model.specs.declared.options.Slots.{Slots}
+use Rattle.plan_model.specs.declared.options.Slots.TheVariants.{Any, First}
 use Rattle.command_words.specs.Names.{Word}
 use Rattle.command_words.specs.Words.{Request, to_translate, to_bound, to_decode, to_encode, to_validate, to_make, to_prune, number_of}
 
@@ -44,8 +46,18 @@ slots_given (to_prune r) = None
 abbrev pub most_made_slots : ℕ
 most_made_slots = 4096
 
+-- the most of which a method takes the lowest free ones
+abbrev pub most_first_slots : ℕ
+most_first_slots = 1024
+
+-- the most by which free slots a method takes
+abbrev pub most_by : Slots → ℕ
+most_by Any = most_slots
+most_by First = most_first_slots
+
 -- the most that are printed
 abbrev pub most_slots_of : Request → ℕ
+most_slots_of (to_translate r) = most_by r.rule
 most_slots_of (to_make r) = most_made_slots
 most_slots_of request = most_slots
 

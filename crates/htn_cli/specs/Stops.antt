@@ -110,30 +110,41 @@ StopsBound level compiled (refused.Limit limit.Bound) = (n : ℕ) × IsBoundAt l
 StopsBound level compiled (refused.Failure failure.Memory) = Unit {0}
 StopsBound level compiled _ = ⊥
 
--- so many slots, which are printed
-pub record AreSlots (n slots : ℕ) : Type 0 where
-  pub same : slots ≡ n
-  pub some : 1 ≤ slots
-  pub few : slots ≤ most_slots
+-- where so many slots are printed, and no more
+module _ (most : ℕ) where
+  -- so many slots, which are printed
+  pub record AreSlots (n slots : ℕ) : Type 0 where
+    pub same : slots ≡ n
+    pub some : 1 ≤ slots
+    pub few : slots ≤ most
 
--- the given number, where one is given
-abbrev pub IsGiven : Option Word → Option ℕ → Type 0
-IsGiven (Some numeral) (Some slots) = AreSlots (number_of numeral) slots
-IsGiven None None = Unit {0}
-IsGiven (Some numeral) None = ⊥
-IsGiven None (Some slots) = ⊥
+  -- the given number, where one is given
+  abbrev pub IsGiven : Option Word → Option ℕ → Type 0
+  IsGiven (Some numeral) (Some slots) = AreSlots (number_of numeral) slots
+  IsGiven None None = Unit {0}
+  IsGiven (Some numeral) None = ⊥
+  IsGiven None (Some slots) = ⊥
 
-abbrev pub StopsGiven : Option Word → Refusal → Type 0
-StopsGiven (Some numeral) refusal = RefusesSlots most_slots (number_of numeral) refusal
-StopsGiven None refusal = ⊥
+  abbrev pub StopsGiven : Option Word → Refusal → Type 0
+  StopsGiven (Some numeral) refusal = RefusesSlots most (number_of numeral) refusal
+  StopsGiven None refusal = ⊥
 
--- the bound of the problem, as a number of slots
-abbrev pub IsComputed : Level → Compiled → ℕ → Type 0
-IsComputed level compiled slots = (n : ℕ) × IsBoundAt level compiled n × AreSlots n slots
+  -- the bound of the problem, as a number of slots
+  abbrev pub IsComputed : Level → Compiled → ℕ → Type 0
+  IsComputed level compiled slots = (n : ℕ) × IsBoundAt level compiled n × AreSlots n slots
 
-abbrev pub StopsComputed : Level → Compiled → Refusal → Type 0
-StopsComputed level compiled refusal =
-    StopsBound level compiled refusal ⊎ ((n : ℕ) × IsBoundAt level compiled n × RefusesSlots most_slots n refusal)
+  abbrev pub StopsComputed : Level → Compiled → Refusal → Type 0
+  StopsComputed level compiled refusal =
+      StopsBound level compiled refusal ⊎ ((n : ℕ) × IsBoundAt level compiled n × RefusesSlots most n refusal)
+
+  -- the number of slots, given or computed
+  abbrev pub IsChosen : Level → Compiled → Option ℕ → ℕ → Type 0
+  IsChosen level compiled (Some given) slots = slots ≡ given
+  IsChosen level compiled None slots = IsComputed level compiled slots
+
+  abbrev pub StopsChosen : Level → Compiled → Option ℕ → Refusal → Type 0
+  StopsChosen level compiled (Some given) refusal = ⊥
+  StopsChosen level compiled None refusal = StopsComputed level compiled refusal
 
 -- a text that was not made
 abbrev pub StopsPrinted : Compiled → Manner → Refusal → Type 0
@@ -145,15 +156,6 @@ StopsPrinted compiled manner _ = ⊥
 abbrev pub IsWant : Refusal → Type 0
 IsWant (refused.Failure failure.Memory) = Unit {0}
 IsWant _ = ⊥
-
--- the number of slots, given or computed
-abbrev pub IsChosen : Level → Compiled → Option ℕ → ℕ → Type 0
-IsChosen level compiled (Some given) slots = slots ≡ given
-IsChosen level compiled None slots = IsComputed level compiled slots
-
-abbrev pub StopsChosen : Level → Compiled → Option ℕ → Refusal → Type 0
-StopsChosen level compiled (Some given) refusal = ⊥
-StopsChosen level compiled None refusal = StopsComputed level compiled refusal
 
 -- a number of slots that may be asked for
 abbrev pub IsInRange : ℕ → Type 0
@@ -177,7 +179,7 @@ module _ (level : Level) (compiled : Compiled) (given : Option ℕ) where
   -- the text of the tree that steps spell
   abbrev pub IsTreeFor : List GroundAction → List ℕ → Type 0
   IsTreeFor steps text =
-      (slots : ℕ) × (length steps ≤ most_steps) × IsChosen level compiled given slots × HaveText compiled slots steps text
+      (slots : ℕ) × (length steps ≤ most_steps) × IsChosen most_slots level compiled given slots × HaveText compiled slots steps text
       × (length text ≤ longest_output)
 
   -- steps without this text
@@ -185,8 +187,8 @@ module _ (level : Level) (compiled : Compiled) (given : Option ℕ) where
   StopsTree steps refusal =
       StopsSteps steps refusal
       ⊎ ((length steps ≤ most_steps)
-      × (StopsChosen level compiled given refusal
-      ⊎ ((slots : ℕ) × IsChosen level compiled given slots × StopsTreeWith compiled slots steps refusal)))
+      × (StopsChosen most_slots level compiled given refusal
+      ⊎ ((slots : ℕ) × IsChosen most_slots level compiled given slots × StopsTreeWith compiled slots steps refusal)))
 
   -- and that of the steps of a text
   abbrev pub IsToldFor : (plan text : List ℕ) → Type 0

@@ -1,13 +1,13 @@
 -- A translation, from the texts of a domain and of a problem: when it is refused, and what it gives.
 -- Source: this project's.
 use Rattle.std.specs.Prelude.{ℕ, ◌≡◌, ◌≤◌, List, [], ◌∷◌, Option, Some, None}
-use Rattle.htn_base.specs.Limits.{most_slots}
 use Rattle.plan_model.specs.declared.values.Compiled.{Compiled}
 use Rattle.command_words.specs.Names.{Word, Names}
 use Rattle.command_words.specs.Words.{TranslationRequest, number_of}
 use Rattle.htn_cli.specs.Answer.{Text, Output}
 use Rattle.htn_cli.specs.Lines.{slots_line}
 use Rattle.htn_cli.specs.Problem.{SpellProblem, HaveBound, HaveCycle, HaveTooMuch}
+use Rattle.htn_cli.specs.Requests.{most_by}
 use Rattle.htn_cli.specs.Slots.{RefusesSlots}
 use Rattle.htn_cli.specs.Texts.{Texts, AreTranslated, AreTooLong}
 use Rattle.htn_cli.specs.declared.manner.Manner.{Manner}
@@ -34,14 +34,14 @@ translation_output names texts slots = record { texts = texts_for names texts; t
 
 module _ (request : TranslationRequest) (domain problem : List ℕ) where
   abbrev pub manner_with : ℕ → Manner
-  manner_with slots = record { slots = slots; style = request.style; checks = request.checks }
+  manner_with slots = record { slots = slots; rule = request.rule; style = request.style; checks = request.checks }
 
   -- the problem is printed with so many slots
   pub record IsForSlots (compiled : Compiled) (slots : ℕ) : Type 0 where
     pub problem_is : SpellProblem domain problem request.checks compiled
     pub slots_are : AreSlotsOf request.level compiled request.numeral slots
     pub some : 1 ≤ slots
-    pub few : slots ≤ most_slots
+    pub few : slots ≤ most_by request.rule
 
   -- the texts that are written, and the number of their slots
   pub record AreWritten (texts : Texts) (slots : ℕ) : Type 0 where
@@ -52,7 +52,8 @@ module _ (request : TranslationRequest) (domain problem : List ℕ) where
   -- the bound of the problem, where no number of slots is given, is past a limit
   abbrev pub RefusesBoundOf : Refusal → Type 0
   RefusesBoundOf refusal =
-      (request.numeral ≡ None) × ((n : ℕ) × HaveBound domain problem request.checks request.level n × RefusesSlots most_slots n refusal)
+      (request.numeral ≡ None)
+      × ((n : ℕ) × HaveBound domain problem request.checks request.level n × RefusesSlots (most_by request.rule) n refusal)
 
   -- the refusals of texts without a fault
   abbrev pub RefusesTranslation : Refusal → Type 0

@@ -23,7 +23,14 @@ pub(crate) fn printed<'a>(
     ensures whole { IfOk result (λ texts. AreWhole compiled.now manner.now (texts_of texts)) }
     ensures refused { IfErr result (StopsPrinted compiled.now manner.now) }
 {
-    match texts_of(alloc, compiled, manner.slots, &manner.style, LONGEST_OUTPUT) {
+    match texts_of(
+        alloc,
+        compiled,
+        manner.slots,
+        &manner.rule,
+        &manner.style,
+        LONGEST_OUTPUT,
+    ) {
         Ok(Printed::Whole(texts)) => Ok(texts),
         Ok(Printed::TooLong(size)) => Err(Refusal::Limit(Limit::Output(size))),
         Err(_) => Err(Refusal::Failure(Failure::Memory)),

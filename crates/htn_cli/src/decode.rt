@@ -1,5 +1,5 @@
 ghost use Rattle.std.specs.Prelude.{◌≤◌, ◌∷◌, [], length, IfSome, IfOk, IfErr};
-ghost use Rattle.htn_base.specs.Limits.{longest_input, longest_output};
+ghost use Rattle.htn_base.specs.Limits.{longest_input, longest_output, most_slots};
 ghost use Rattle.outside_io.specs.Seen.{Seen};
 ghost use Rattle.command_words.specs.Bounds.{IsNumeral};
 ghost use Rattle.command_words.specs.Words.{decode_of, to_decode};
@@ -20,7 +20,7 @@ use command_words::{Decoding, Level};
 use htn_base::limits::{LONGEST_OUTPUT, MOST_STEPS};
 use htn_base::{Memory, Text};
 use outside_io::Files;
-use plan_model::Compiled;
+use plan_model::{Compiled, Slots};
 use plan_text::Plan;
 use std::alloc::Global;
 use text_forms::sexpr_text::ReadError;
@@ -45,7 +45,7 @@ pub(crate) fn decode<'a, F: Files>(
     ensures stopped { IfErr result (Seen F.passed
         (StopsInputs (to_decode (decode_of asked.now))) files.old files.new) }
 {
-    let given = given_slots(asked.numeral)?;
+    let given = given_slots(asked.numeral, Slots::Any)?;
     let sources = read_two(alloc, files, asked.d, asked.p)?;
     let plan = read(alloc, files, asked.plan)?;
     let told = decoded(
@@ -77,7 +77,7 @@ fn decoded<'a>(
     requires domain_short { length domain.now ≤ longest_input }
     requires problem_short { length problem.now ≤ longest_input }
     requires plan_short { length plan.now ≤ longest_input }
-    requires given { IsGiven (decode_of asked.now).numeral given }
+    requires given { IsGiven most_slots (decode_of asked.now).numeral given }
     ensures told { IfOk result (λ text. GivesTree
         (decode_of asked.now) domain.now problem.now plan.now (told_alone text)) }
     ensures short { IfOk result (λ text. length text ≤ longest_output) }
@@ -138,7 +138,7 @@ fn text_for<'a>(
     if plan.len() > MOST_STEPS as usize {
         return Err(Refusal::Limit(Limit::Steps(plan.len())));
     }
-    let slots = slots_for(alloc, compiled, given, level)?;
+    let slots = slots_for(alloc, compiled, given, level, Slots::Any)?;
     match tree_text(alloc, compiled, slots, plan, LONGEST_OUTPUT) {
         Ok(TreeText::Whole(text)) => Ok(text),
         Ok(TreeText::TooLong(size)) => Err(Refusal::Limit(Limit::Output(size))),

@@ -23,7 +23,7 @@ use hplan_text::HPlan;
 use htn_base::limits::{LONGEST_OUTPUT, MOST_LINES};
 use htn_base::{Memory, Text};
 use outside_io::Files;
-use plan_model::Compiled;
+use plan_model::{Compiled, Slots};
 use std::alloc::Global;
 use step_texts::{StepText, step_text};
 use text_forms::sexpr_text::ReadError;
@@ -47,7 +47,7 @@ pub(crate) fn encode<'a, F: Files>(
     ensures stopped { IfErr result (Seen F.passed
         (StopsInputs (to_encode (encode_of asked.now))) files.old files.new) }
 {
-    let given = given_slots(asked.numeral)?;
+    let given = given_slots(asked.numeral, Slots::Any)?;
     let sources = read_two(alloc, files, asked.d, asked.p)?;
     let hplan = read(alloc, files, asked.hplan)?;
     let told = encoded(
@@ -79,7 +79,7 @@ fn encoded<'a>(
     requires domain_short { length domain.now ≤ longest_input }
     requires problem_short { length problem.now ≤ longest_input }
     requires hplan_short { length hplan.now ≤ longest_input }
-    requires given { IsGiven (encode_of asked.now).numeral given }
+    requires given { IsGiven most_slots (encode_of asked.now).numeral given }
     ensures told { IfOk result (λ text. GivesSteps
         (encode_of asked.now) domain.now problem.now hplan.now (told_alone text)) }
     ensures short { IfOk result (λ text. length text ≤ longest_output) }

@@ -22,7 +22,7 @@ use command_words::{Level, Making, count_of};
 use hplan_text::HPlan;
 use htn_base::Memory;
 use made_transport::{Made, made};
-use plan_model::{Checks, Compiled, Style};
+use plan_model::{Checks, Compiled, Slots, Style};
 use std::alloc::Global;
 use step_texts::{StepCount, step_count};
 
@@ -102,7 +102,7 @@ fn output_at_bound<'a>(
     ensures differ { IfOk result NamesDiffer }
     ensures refused { IfErr result (StopsAtBound (make_of asked.now) compiled.now plan.now) }
 {
-    let bound = slots_for(alloc, compiled, None, Level::Lifted)?;
+    let bound = slots_for(alloc, compiled, None, Level::Lifted, Slots::Any)?;
     summed_up(alloc, asked, compiled, plan, bound)
 }
 
@@ -164,6 +164,7 @@ fn output_with<'a>(
 {
     let manner = Manner {
         slots: counts.bound,
+        rule: Slots::Any,
         style: Style::Adl,
         checks: Checks::Leaf,
     };

@@ -8,6 +8,7 @@ ghost use Rattle.plan_texts.specs.SoundlyCompiled.{IsSoundlyCompiled};
 ghost use Rattle.htn_cli.specs.Answer.{gives};
 ghost use Rattle.htn_cli.specs.Made.{GivesOutput, IsMadeFor, IsMadeWith, NamesDiffer, StopsMadeFor, manner_of, output_of};
 ghost use Rattle.htn_cli.specs.Calling.{PassesInputs, StopsInputs};
+ghost use Rattle.htn_cli.specs.Requests.{most_by};
 ghost use Rattle.htn_cli.specs.Stops.{IsGiven, StopsOutput, StopsPrinted, StopsTexts};
 ghost use Rattle.htn_cli.specs.Translation.{GivesTranslation};
 
@@ -40,7 +41,7 @@ pub(crate) fn translation<'a, F: Files>(
     ensures stopped { IfErr result (Seen F.passed
         (StopsInputs (to_translate (translation_of asked.now))) files.old files.new) }
 {
-    let given = given_slots(asked.numeral)?;
+    let given = given_slots(asked.numeral, asked.rule)?;
     let sources = read_two(alloc, files, asked.names.d, asked.names.p)?;
     let output = translated(
         alloc,
@@ -63,7 +64,7 @@ fn translated<'a>(
 ) -> Result<Output<'a>, Refusal<'a>>
     requires domain_short { length domain.now ≤ longest_input }
     requires problem_short { length problem.now ≤ longest_input }
-    requires given { IsGiven (translation_of asked.now).numeral given }
+    requires given { IsGiven (most_by asked.now.rule) (translation_of asked.now).numeral given }
     requires apart { asked.now.names.od.now ≢ asked.now.names.op.now }
     ensures output { IfOk result (λ made. GivesTranslation
         (translation_of asked.now) domain.now problem.now (output_of made)) }
@@ -91,7 +92,7 @@ fn output_for<'a>(
     ensures differ { IfOk result NamesDiffer }
     ensures refused { IfErr result (StopsMadeFor (translation_of asked.now) compiled.now given) }
 {
-    let slots = slots_for(alloc, compiled, given, asked.level)?;
+    let slots = slots_for(alloc, compiled, given, asked.level, asked.rule)?;
     output_with(alloc, compiled, asked, slots)
 }
 
@@ -111,6 +112,7 @@ fn output_with<'a>(
 {
     let manner = Manner {
         slots,
+        rule: asked.rule,
         style: asked.style,
         checks: asked.checks,
     };

@@ -2,10 +2,12 @@
 use Rattle.std.proofs.Common.{List, [], ◌∷◌, Some, codes, refl, ap, get_or, arith, lit≤, lit<}
 use Rattle.plan_model.specs.declared.options.Style.TheVariants.{Flat}
 use Rattle.plan_model.specs.declared.options.Checks.TheVariants.{Leaf, AtOnce}
+use Rattle.plan_model.specs.declared.options.Slots.TheVariants.{First}
 use Rattle.command_words.specs.declared.level.Level.TheVariants.{Lifted, Ground}
 use Rattle.command_words.specs.Names.{Word, Names, names_in, AreApart}
 use Rattle.command_words.specs.Forms.{AreOptions, AreOf, translation_form, bound_form, prune_form}
 use Rattle.command_words.specs.Words.{SayTranslation, TranslationRequest, to_translate, to_bound, to_decode, to_encode, to_validate, to_make, to_prune, AsksTranslation, AsksBound, AsksMake, AsksPrune, AreOfAForm}
+use Rattle.command_words.proofs.Said.{among_told}
 
 abbrev files : Names
 files = record { domain = codes "d.hddl"; problem = codes "p.hddl"; printed_domain = codes "od.pddl"; printed_problem = codes "op.pddl" }
@@ -14,19 +16,19 @@ files_apart : AreApart files
 files_apart =
     record { outputs = λ e. grind (arith, e); domain = (λ e. grind (arith, e), λ e. grind (arith, e)); problem = (λ e. grind (arith, e), λ e. grind (arith, e)) }
 
--- a translation with one slot and flat conditions, and its checks at leaves
+-- a translation with one slot, flat conditions and first-free slots, and its checks at leaves
 abbrev options : List Word
-options = codes "--style" ∷ codes "flat" ∷ codes "--bound" ∷ codes "1" ∷ []
+options = codes "--style" ∷ codes "flat" ∷ codes "--slots" ∷ codes "first" ∷ codes "--bound" ∷ codes "1" ∷ []
 
 abbrev request : TranslationRequest
-request = record { names = files; numeral = Some (codes "1"); level = Lifted; style = Flat; checks = Leaf }
+request = record { names = files; numeral = Some (codes "1"); level = Lifted; style = Flat; checks = Leaf; rule = First }
 
 one_slot : AsksTranslation (codes "translate" ∷ codes "d.hddl" ∷ codes "p.hddl" ∷ codes "od.pddl" ∷ codes "op.pddl" ∷ options) request
 one_slot = (
   names_in files,
   options,
-  record { spelled = refl; counted = refl; allowed = ((2, lit< tt, refl), refl, ((0, lit< tt, refl), refl, tt)) },
-  record { files = refl; numeral = refl; slots = record { digits = refl; some = lit≤ tt; few = lit≤ tt; above_zero = lit≤ tt }; level = refl; computed = refl; style = refl; checks = refl; apart = files_apart },
+  record { spelled = refl; counted = refl; allowed = ((2, lit< tt, refl), refl, ((4, lit< tt, refl), refl, ((0, lit< tt, refl), refl, tt))) },
+  record { files = refl; numeral = refl; slots = record { digits = refl; some = lit≤ tt; few = lit≤ tt; above_zero = lit≤ tt }; level = refl; computed = refl; style = refl; checks = refl; rule = refl; apart = files_apart },
 )
 
 -- a bound over what is reached, with its checks at once
@@ -43,6 +45,10 @@ at_once = (
 level_and_slots : (names : List Word) (r : TranslationRequest)
     → SayTranslation names (codes "--level" ∷ codes "lifted" ∷ codes "--bound" ∷ codes "1" ∷ []) r → ⊥
 level_and_slots names r says = let e = says.computed in cc
+
+-- a bound is of no rule for slots
+bound_of_first : AreOptions bound_form.options (codes "--slots" ∷ codes "first" ∷ []) → ⊥
+bound_of_first are = let t = (among_told bound_form.options (codes "--slots")).1 are.0 in cc
 
 -- a count with zeros before it
 nine_digits : AsksMake (codes "make" ∷ codes "000000819" ∷ codes "od" ∷ codes "op" ∷ []) record { numeral = codes "000000819"; printed_domain = codes "od"; printed_problem = codes "op" }

@@ -4,9 +4,11 @@
 use Rattle.std.specs.Prelude.{ℕ, ◌≡◌, List, None, IfSome}
 use Rattle.outside_io.specs.Files.{FilesState}
 use Rattle.outside_io.specs.Sink.{SinkState}
+use Rattle.plan_model.specs.declared.options.Slots.TheVariants.{First}
 use Rattle.plan_model.specs.plan_meaning.Network.{network}
 use Rattle.slot_machine.specs.Laws.{PendingAreOpenLeaves}
-use Rattle.plan_proof.specs.Headline.{Headline, HeadlineAtBound, LosesNothing}
+use Rattle.plan_proof.specs.Headline.{HeadlineBy, HeadlineAtBoundBy, OnePlanForEach, LosesNothingBy}
+use Rattle.first_slots.specs.LowestSpelling.{SpellingBy}
 use Rattle.command_words.specs.Names.{Word}
 use Rattle.command_words.specs.Words.{TranslationRequest, number_of, AsksTranslation}
 use Rattle.htn_cli.specs.Told.{IsToldToRead, IsToldToHold}
@@ -14,15 +16,18 @@ use Rattle.htn_cli.specs.Lines.{slots_line}
 use Rattle.htn_cli.specs.Sent.{TakesWhole}
 use Rattle.htn_cli.specs.promise.Problems.{ForEach}
 
--- what two printed texts are with so many slots
+-- what two printed texts are with so many slots: a list is a plan of them exactly where it spells a schedule of a solution tree with never
+-- more tasks pending; spelled with free slots by the rule of the request, any ones or the lowest
 pub record KeepPlans (request : TranslationRequest) (d p od op : List ℕ) (slots : ℕ) : Type 0 where
   pub given : IfSome request.numeral (λ numeral. slots ≡ number_of numeral)
-  pub headline : Headline d p request.checks slots od op
-  pub at_bound : HeadlineAtBound d p request.checks slots od op
+  pub headline : HeadlineBy (SpellingBy request.rule) d p request.checks slots od op
+  pub at_bound : HeadlineAtBoundBy (SpellingBy request.rule) d p request.checks slots od op
   -- after a whole schedule what is pending are the open leaves
   pub open_leaves : ForEach d p request.checks (λ h c. PendingAreOpenLeaves (network c))
   -- without a given number of slots no schedule of any solution is lost
-  pub nothing_lost : request.numeral ≡ None → ForEach d p request.checks (λ h c. LosesNothing c slots od op)
+  pub nothing_lost : request.numeral ≡ None → ForEach d p request.checks (λ h c. LosesNothingBy (SpellingBy request.rule) c slots od op)
+  -- with the lowest free slots each such schedule has exactly one plan
+  pub one_plan : request.rule ≡ First → OnePlanForEach (SpellingBy request.rule) d p request.checks slots od op
 
 -- the number of slots that was told, and what the two written texts are with so many
 pub record KeepsPlans (request : TranslationRequest) (d p od op : List ℕ) (out out' : SinkState) : Type 0 where

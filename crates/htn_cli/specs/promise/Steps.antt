@@ -4,13 +4,14 @@
 use Rattle.std.specs.Prelude.{ℕ, ◌≡◌, ◌≤◌, List, [], ◌∷◌, Option, Some}
 use Rattle.outside_io.specs.Files.{FilesState}
 use Rattle.outside_io.specs.Sink.{SinkState}
+use Rattle.plan_model.specs.declared.options.Slots.{Slots}
 use Rattle.plan_model.specs.declared.options.Style.{Style}
 use Rattle.plan_model.specs.declared.steps.GroundAction.{GroundAction}
 use Rattle.plan_model.specs.declared.values.Compiled.{Compiled}
 use Rattle.plan_model.specs.declared.values.Pddl.{Pddl}
 use Rattle.plan_model.specs.plan_meaning.Bound.{IsBound}
 use Rattle.plan_texts.specs.PrintedTexts.{domain_text, problem_text}
-use Rattle.slot_encoding.specs.Printed.{IsPrinted}
+use Rattle.slot_encoding.specs.Printed.{IsPrintedBy}
 use Rattle.plan_proof.specs.TextPlans.{IsPlanOf}
 use Rattle.schedules.specs.latest.PlanLines.{IsRenumbering}
 use Rattle.hplan_text.specs.declared.values.HPlan.{HPlan}
@@ -54,9 +55,9 @@ module _ (request : EncodeRequest) (d p hplan : List ℕ) where
     pub shows : ForEach d p request.checks (λ h c. SpellShown c slots steps shown)
     pub new : ℕ → ℕ
     pub renumbered : IsRenumbering new (lines_of plan) (lines_of shown)
-    -- and they are a plan of each two texts that are printed with so many slots
-    pub is_plan : ForEach d p request.checks (λ h c. (style : Style) (value : Pddl) → IsPrinted h request.checks c slots style value
-        → IsPlanOf (domain_text value) (problem_text value) steps)
+    -- and they are a plan of each two texts that are printed with so many slots, whichever free ones a method takes
+    pub is_plan : ForEach d p request.checks (λ h c. (rule : Slots) (style : Style) (value : Pddl)
+        → IsPrintedBy rule h request.checks c slots style value → IsPlanOf (domain_text value) (problem_text value) steps)
 
   -- a plan that was said to have no steps: the line tells the first sentence that says why
   pub record TellsNoSteps (err err' : SinkState) : Type 0 where

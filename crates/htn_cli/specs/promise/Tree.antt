@@ -42,7 +42,7 @@ module _ (request : DecodeRequest) (d p plan : List ℕ) where
     pub told : TakesWhole text out out'
     pub shown : ForEach d p request.checks (λ h c. HaveText c slots steps text)
     pub only_one : ForEach d p request.checks (λ h c. SpellsOne c slots steps)
-    -- so they are a plan of each two texts that are printed with so many slots
+    -- so they are a plan of each two texts that are printed with so many slots, of which a method takes any free ones
     pub is_plan : ForEach d p request.checks (λ h c. (style : Style) (value : Pddl) → IsPrinted h request.checks c slots style value
         → IsPlanOf (domain_text value) (problem_text value) steps)
 

@@ -59,12 +59,23 @@ fn as_many_slots_as_there_may_be(rt: HostRuntime) {
             manner,
             "slots 65536\n",
         );
+        has_slots(
+            &rt,
+            rt.alloc(),
+            &["--bound", "1024", "--slots", "first"],
+            manner,
+            "slots 1024\n",
+        );
     }
 }
 
 /// Numbers of slots past a limit, and the line.
 const PAST: &[(&[&str], &str)] = &[
     (&["--bound", "65537"], "limit slots 65537\n"),
+    (
+        &["--bound", "1025", "--slots", "first"],
+        "limit slots 1025\n",
+    ),
     (
         &["--bound", "340282366920938463463374607431768211455"],
         "limit slots 340282366920938463463374607431768211455\n",

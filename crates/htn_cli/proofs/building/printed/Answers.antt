@@ -9,6 +9,6 @@ pub returns-in-Ok-TooLong-clause-refused : goal.returns-in-Ok-TooLong-clause-ref
 returns-in-Ok-TooLong-clause-refused c =
     let compiled = c.args.compiled.now in
     let manner = c.args.manner.now in
-    let within : ArePrintedWithin compiled manner.slots manner.style longest_output (TooLong c.in-Ok-TooLong.size) =
-    subst (ArePrintedWithin compiled manner.slots manner.style longest_output) c.in-Ok-TooLong.field-0-is c.in-Ok-TooLong.ensures.printed in
+    let within : ArePrintedWithin manner.rule compiled manner.slots manner.style longest_output (TooLong c.in-Ok-TooLong.size) =
+    subst (ArePrintedWithin manner.rule compiled manner.slots manner.style longest_output) c.in-Ok-TooLong.field-0-is c.in-Ok-TooLong.ensures.printed in
     past_is_long compiled manner c.in-Ok-TooLong.size within

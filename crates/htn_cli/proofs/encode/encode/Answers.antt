@@ -1,5 +1,6 @@
 use Rattle.std.proofs.Common.{ℕ, ◌≡◌, [], ◌∷◌, List, Option, Some, None, option_map, refl}
 use Rattle.std.proofs.lemmas.Result.{err_from_is_err_and}
+use Rattle.htn_base.specs.Limits.{most_slots}
 use Rattle.outside_io.specs.Calls.{Passed, got}
 use Rattle.command_words.specs.Names.{Word}
 use Rattle.command_words.specs.Words.{EncodeRequest, encode_of, to_encode, number_of}
@@ -14,10 +15,10 @@ use Rattle.htn_cli.proofs.Leavings.{given_within, given_refused, unread, gives_m
 use Rattle.htn_cli.proofs.CallsMade.{stops_slots, calls_then, stops_next_get, stops_more_gets, stops_inputs, passes_output, passes_stop}
 use Rattle.htn_cli.proofs.encode.encode.Goals as goal
 
-within : (r : EncodeRequest) (g : Option ℕ) → IsGiven r.numeral g → IsWithin (to_encode r)
-within r g is = given_within r.numeral g is
+within : (r : EncodeRequest) (g : Option ℕ) → IsGiven most_slots r.numeral g → IsWithin (to_encode r)
+within r g is = given_within most_slots r.numeral g is
 
-given_calls : (r : EncodeRequest) (numeral : Option Word) → slots_given (to_encode r) ≡ option_map number_of numeral → (old : Option (List Passed)) (refusal : Refusal) → StopsGiven numeral refusal
+given_calls : (r : EncodeRequest) (numeral : Option Word) → slots_given (to_encode r) ≡ option_map number_of numeral → (old : Option (List Passed)) (refusal : Refusal) → StopsGiven most_slots numeral refusal
     → StopsInputs (to_encode r) old old refusal
 given_calls r None e old refusal stops = absurd stops
 given_calls r (Some word) e old refusal stops = stops_slots (to_encode r) (number_of word) e old refusal stops
@@ -26,7 +27,7 @@ pub returns-in_err-given-clause-refused : goal.returns-in_err-given-clause-refus
 returns-in_err-given-clause-refused g c =
     let p = err_from_is_err_and c.from_residual.result c.from_residual.ensures.1 in
     let r = encode_of c.args.asked.now in
-    rw (p.1, p.2) (given_refused (to_encode r) (g.F.Files.state c.args.files.now) r.numeral refl refl _ c.in_err-given.ensures.refused)
+    rw (p.1, p.2) (given_refused (to_encode r) (g.F.Files.state c.args.files.now) r.numeral refl _ c.in_err-given.ensures.refused)
 
 pub returns-in_err-sources-clause-refused : goal.returns-in_err-sources-clause-refused
 returns-in_err-sources-clause-refused g c =
