@@ -3,9 +3,9 @@
 # actions at one slot; the smallest problem at 65,536 slots in style adl; 54 actions at 65,536 slots in style flat; Transport with
 # 2,000 packages at 4,096 slots; 500 methods of 40 subtasks; 140,000 facts; and `validate` of 50,000 steps (bench/validate.sh has
 # the same with a million); `decode` of 25,000 uses of a tail-recursive method, and of the deliveries of 200 packages, and `encode` of
-# the trees of both; `make 200`, and of its problem `translate` with 1,024 first-free slots; `bound --level ground` of 100 packages, 10
-# vehicles and 30 places on a ring; and `prune` of 2,000 tasks with four methods each, half of which are kept (at most 160 million are
-# asked for). Wants ./htn, as examples/transport/run leaves it, and valgrind. A line each: the instructions.
+# the trees of both; `make 200`, and of its problem `translate` with 1,024 first-free slots; `bound --level ground` of 100 packages,
+# 10 vehicles and 30 places on a ring; and `prune` of 2,000 tasks with four methods each, half of which are kept (at most 160 million
+# are asked for). Wants ./htn, as examples/transport/run leaves it, and valgrind. A line each: the instructions.
 #
 # Counted, in the order of the cases, millions: 19.7, 97.7, 754.8, 407.6, 303.0, 285.5, 215.4, `decode` 314.4, 24.5, `encode` 389.5, 34.9, and
 # `make 200` 31.6 (37.8 before trees were joined without a map); `decode` and `encode` were counted before that too. Before steps were put on the sheet straight from slots and words `encode` took 470.6, 41.1.

@@ -11,7 +11,7 @@ use Rattle.std.proofs.lemmas.Slice.Eq.{bytes_eq-Decides}
 use Rattle.command_words.specs.Names.{Word, Names, AreApart}
 use Rattle.command_words.specs.Bounds.{IsNumeral, IsCount}
 use Rattle.command_words.specs.Forms.{Row, said, AreOptions, AreOf, translation_form, bound_form, decode_form, encode_form, validation_form, make_form, prune_form}
-use Rattle.command_words.specs.Options.{AreSlots, slots_said, style_said, checks_said, level_said, rule_said, IsComputed}
+use Rattle.command_words.specs.Options.{AreSlots, slots_said, style_said, checks_said, level_said, IsComputed, rule_said}
 use Rattle.command_words.specs.Words.{TranslationRequest, BoundRequest, DecodeRequest, EncodeRequest, ValidationRequest, MakeRequest, PruneRequest, to_translate, to_bound, to_decode, to_encode, to_validate, to_make, to_prune, AskBy, SayTranslation, SayBound, SayDecode, SayEncode, SayValidation, SayMake, SayPrune, AsksTranslation, AsksBound, AsksDecode, AsksEncode, AsksValidation, AsksMake, AsksPrune, AreOfAForm}
 use Rattle.command_words.proofs.Said.{among_told}
 use Rattle.command_words.proofs.Requests.{not_said, no_form}

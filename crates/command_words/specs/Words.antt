@@ -19,7 +19,7 @@ use Rattle.command_words.specs.declared.commands.Command.TheVariants.{Translate,
 use Rattle.command_words.specs.Names.{Word, Names, names_of, names_in, AreApart}
 use Rattle.command_words.specs.Bounds.{IsCount}
 use Rattle.command_words.specs.Forms.{Row, AreOf, translation_form, bound_form, decode_form, encode_form, validation_form, make_form, prune_form}
-use Rattle.command_words.specs.Options.{AreSlots, slots_said, style_said, checks_said, level_said, rule_said, IsComputed}
+use Rattle.command_words.specs.Options.{AreSlots, slots_said, style_said, checks_said, level_said, IsComputed, rule_said}
 
 -- a translation that is asked for: its files, the numeral of its slots where one is given, the level of a bound that is computed, its
 -- style, how preconditions of methods are checked, and which free slots a method takes

@@ -14,7 +14,7 @@ use Rattle.plan_texts.specs.PrintedTexts.{domain_text, problem_text}
 use Rattle.plan_texts.specs.SoundValue.{IsSoundHddl}
 use Rattle.plan_texts.specs.SpellsHddl.{hddl_words}
 use Rattle.slot_encoding.specs.FirstFree.{IsFirstEncoded, IsEncodedBy}
-use Rattle.slot_encoding.specs.Printed.{IsPrinted, IsPrintedFirst, IsPrintedBy}
+use Rattle.slot_encoding.specs.Printed.{IsPrintedFirst, IsPrintedBy}
 use Rattle.plan_proof.specs.Headline.{HeadlineBy, HeadlineAtBoundBy, OnePlanForEach}
 use Rattle.plan_proof.specs.Same.{AreSameButNames}
 use Rattle.plan_proof.proofs.machine.Bounds.{loses_nothing}

@@ -1,5 +1,5 @@
 -- The facts that tell which slot is lower: those of the first state, and that they never change.
-use Rattle.std.proofs.Common.{ℕ, suc, ◌≡◌, ◌↔◌, ◌+◌, ◌-◌, ◌<◌, ◌≤◌, inl, inr, List, [], ◌∷◌, ◌++◌, map, length, refl, ap, sym, subst, ◌∙◌, Contains, arith}
+use Rattle.std.proofs.Common.{ℕ, suc, ◌≡◌, ◌↔◌, ◌-◌, ◌<◌, ◌≤◌, inl, inr, List, [], ◌∷◌, map, length, ap, sym, subst, Contains, arith}
 use Rattle.std.proofs.lemmas.List.Elements.{Contains-append_left, Contains-append_right, Contains-append_cases}
 use Rattle.plan_model.specs.declared.options.Style.{Style}
 use Rattle.plan_model.specs.declared.terms.GroundAtom.{GroundAtom}
@@ -13,7 +13,7 @@ use Rattle.plan_model.specs.plan_meaning.Truth.{State}
 use Rattle.plan_model.specs.plan_meaning.Network.{Work, network}
 use Rattle.plan_model.specs.plan_meaning.Solution.{top_work, initial}
 use Rattle.slot_machine.specs.Machine as Machine
-use Rattle.slot_encoding.specs.EncodedNames.{joined, first_guard, guard_predicate}
+use Rattle.slot_encoding.specs.EncodedNames.{joined, guard_predicate}
 use Rattle.slot_encoding.specs.EncodedValue.{atom}
 use Rattle.slot_encoding.specs.FirstFree.{less_predicate, is_less, less_facts}
 use Rattle.slot_encoding.proofs.Pieces.{slot_object, IsSlot}

@@ -5,13 +5,13 @@ use Rattle.plan_model.specs.declared.options.Style.{Style}
 use Rattle.plan_model.specs.declared.terms.Term.TheVariants.{Var}
 use Rattle.plan_model.specs.declared.terms.Param.{Param}
 use Rattle.plan_model.specs.declared.formulas.Formula.{Formula}
-use Rattle.plan_model.specs.declared.formulas.Formula.TheVariants.{Holds, Equal, Not, And, Or, Imply, Forall}
+use Rattle.plan_model.specs.declared.formulas.Formula.TheVariants.{Holds, Equal, Not, Or, Imply, Forall}
 use Rattle.plan_model.specs.declared.schemas.MethodPlan.{MethodPlan}
 use Rattle.plan_model.specs.declared.values.Compiled.{Compiled}
 use Rattle.plan_model.specs.declared.values.Pddl.{Pddl}
 use Rattle.plan_model.specs.task_networks.Spelling.{numbers}
 use Rattle.plan_model.proofs.task_networks.Numbers.{numbers_to, to_numbers}
-use Rattle.plan_model.specs.plan_meaning.Truth.{State, ground, AreTyped, EachTrue, OneTrue, IsTrueIn}
+use Rattle.plan_model.specs.plan_meaning.Truth.{State, AreTyped, EachTrue, OneTrue, IsTrueIn}
 use Rattle.plan_model.specs.plan_meaning.Network.{GroundMethod, InTypeOf}
 use Rattle.plan_model.proofs.plan_meaning.TruthEquations.{truth-Holds, truth-Not, truth-And, truth-Or, truth-Imply, truth-Forall, truth-Equal}
 use Rattle.plan_model.proofs.plan_meaning.EachPart.{each_map, one_map}

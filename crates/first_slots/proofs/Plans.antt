@@ -1,5 +1,5 @@
 -- What the plans of the problem with first-free slots are: the spellings of solutions with the lowest free slots, one for each schedule.
-use Rattle.std.proofs.Common.{ℕ, ◌≡◌, ◌↔◌, ◌≤◌, List, [], map, refl, ap, sym, subst, ◌∙◌, Contains}
+use Rattle.std.proofs.Common.{ℕ, ◌↔◌, ◌≤◌, List, [], map, refl, ap, sym, subst, ◌∙◌, Contains}
 use Rattle.std.proofs.lemmas.List.Elements.{Contains-append_left}
 use Rattle.plan_model.specs.declared.options.Checks.{Checks}
 use Rattle.plan_model.specs.declared.options.Style.{Style}

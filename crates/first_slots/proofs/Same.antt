@@ -1,12 +1,9 @@
 -- What is encoded with first-free slots for a compiled value is encoded for each that is the same but for names.
-use Rattle.std.proofs.Common.{ℕ, zero, suc, ◌≡◌, ◌+◌, ◌-◌, List, [], ◌∷◌, ◌++◌, map, length, refl, ap, sym, ◌∙◌}
+use Rattle.std.proofs.Common.{ℕ, zero, suc, ◌≡◌, ◌+◌, ◌-◌, List, [], ◌∷◌, ◌++◌, map, length, refl, sym, ◌∙◌}
 use Rattle.std.specs.Prelude.{codes}
 use Rattle.plan_model.specs.declared.options.Style.{Style}
 use Rattle.plan_model.specs.declared.terms.Term.TheVariants.{Var}
-use Rattle.plan_model.specs.declared.terms.GroundAtom.{GroundAtom}
-use Rattle.plan_model.specs.declared.formulas.Formula.{Formula}
 use Rattle.plan_model.specs.declared.formulas.Formula.TheVariants.{Holds, Equal, Not, And, Or, Imply, Forall}
-use Rattle.plan_model.specs.declared.schemas.ActionSchema.{ActionSchema}
 use Rattle.plan_model.specs.declared.schemas.MethodPlan.{MethodPlan}
 use Rattle.plan_model.specs.declared.values.Compiled.{Compiled}
 use Rattle.plan_model.specs.declared.values.Pddl.{Pddl}
@@ -15,8 +12,7 @@ use Rattle.plan_texts.specs.SpellsHddl.{hddl_words}
 use Rattle.plan_texts.specs.SoundValue.{IsSoundHddl}
 use Rattle.plan_texts.specs.Together.{Together}
 use Rattle.slot_encoding.specs.EncodedNames.{joined, free_predicate, slot_param}
-use Rattle.slot_encoding.specs.EncodedActions.{spare, depth}
-use Rattle.slot_encoding.specs.FirstFree.{less, less_predicate, is_free_below, lowest_slot, lowest_slots, first_method, first_methods, first_actions, less_facts, IsFirstEncoded}
+use Rattle.slot_encoding.specs.FirstFree.{less, less_predicate, is_free_below, lowest_slot, first_method, first_methods, first_actions, less_facts, IsFirstEncoded}
 use Rattle.plan_proof.specs.Same.{AreSameButNames}
 use Rattle.plan_proof.proofs.values.TypeNumbers.{AreApart}
 use Rattle.plan_proof.proofs.values.SameActions.{Alike, objects-count, guard_types-same, free-same, first_guard-same, method-printed, checks-printed, sources-printed, e_spare, e_depth, e_pre}

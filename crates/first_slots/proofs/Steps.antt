@@ -1,5 +1,5 @@
 -- A step of the problem with first-free slots is a step of that with any free slots whose new slots are the lowest free ones.
-use Rattle.std.proofs.Common.{ℕ, ◌≡◌, ◌↔◌, ◌<◌, ◌≤◌, inl, inr, List, [], ◌∷◌, ◌++◌, map, length, slice_get, Some, refl, ap, sym, subst, ◌∙◌, Contains, arith}
+use Rattle.std.proofs.Common.{ℕ, ◌≡◌, ◌↔◌, ◌≤◌, inl, inr, List, [], ◌∷◌, ◌++◌, map, length, slice_get, Some, refl, ap, sym, subst, ◌∙◌, arith}
 use Rattle.plan_model.specs.declared.options.Checks.{Checks}
 use Rattle.plan_model.specs.declared.options.Style.{Style}
 use Rattle.plan_model.specs.declared.schemas.ActionSchema.{ActionSchema}
@@ -10,8 +10,7 @@ use Rattle.plan_model.specs.declared.values.Hddl.{Hddl}
 use Rattle.plan_model.specs.declared.values.Pddl.{Pddl}
 use Rattle.plan_model.specs.task_networks.Net.{Net}
 use Rattle.plan_model.specs.task_networks.Spelling.{Act, run, apply, label_of}
-use Rattle.plan_model.specs.plan_meaning.Truth.{State, AreTyped, EachTrue, IsTrueIn, after}
-use Rattle.plan_model.specs.plan_meaning.ClassicalPlan as Printed
+use Rattle.plan_model.specs.plan_meaning.Truth.{State, AreTyped, IsTrueIn, after}
 use Rattle.plan_model.specs.plan_meaning.ClassicalPlan.{IsApplicable, EndsIn}
 use Rattle.plan_model.specs.plan_meaning.Laws.{AreOrdered}
 use Rattle.plan_model.specs.plan_meaning.Network.{action, check, task, GroundMethod, network}
@@ -24,7 +23,7 @@ use Rattle.schedules.specs.ruled.LowestSlots.{AreLowestFree, LowestRule}
 use Rattle.schedules.specs.ruled.SlotRule.{IsRuled, RuledRuns}
 use Rattle.slot_encoding.specs.EncodedActions.{spare, depth, method_pre, encoded_method}
 use Rattle.slot_encoding.specs.EncodedValue.{encoded_actions}
-use Rattle.slot_encoding.specs.FirstFree.{lowest_slots, first_method, first_actions}
+use Rattle.slot_encoding.specs.FirstFree.{lowest_slots, first_method}
 use Rattle.slot_encoding.proofs.Pieces.{IsSlot, IsActBy, IsMethodAct, StepsAreActs}
 use Rattle.slot_encoding.proofs.places.ActionPlaces.{method_at}
 use Rattle.slot_encoding.proofs.places.ListPlaces.{get_within, get_contains, contains_get}
@@ -35,13 +34,11 @@ use Rattle.slot_encoding.proofs.places.WellWorded.{IsWellWorded}
 use Rattle.plan_proof.proofs.machine.ActionWords.{same_action}
 use Rattle.plan_proof.proofs.machine.Facts.{PiecesMean}
 use Rattle.plan_proof.proofs.machine.Freeing.{InT}
-use Rattle.plan_proof.proofs.machine.MethodConditions.{objects}
 use Rattle.plan_proof.proofs.machine.Methods.{each_contains}
 use Rattle.plan_proof.proofs.machine.PrintedMeans.{worded_means}
 use Rattle.plan_proof.proofs.machine.Reading.{free_atom, Reads, Applies, LeadsBy}
-use Rattle.plan_proof.proofs.machine.Running.{IsTaken}
 use Rattle.plan_proof.proofs.machine.Runs.{IsReached, reached_next, act_to}
-use Rattle.plan_proof.proofs.machine.StepWords.{place_of, Shows, shown, steps_are_acts}
+use Rattle.plan_proof.proofs.machine.StepWords.{place_of, shown, steps_are_acts}
 use Rattle.first_slots.proofs.Less.{TellsLess, tells_after}
 use Rattle.first_slots.proofs.LowestTrue.{first_true}
 use Rattle.first_slots.proofs.Plain.{IsNarrowed, IsUnchanged, first_cases, narrowed_at, unchanged_at}

@@ -12,8 +12,8 @@ ghost use Rattle.slot_encoding.specs.Printed.{IsPrintedBy};
 
 use plan_model::{Checks, Compiled, Hddl, Pddl, Slots, Style};
 
-/// Two source texts have one pair of printed texts at most, in each mode of checks, by each rule for slots, with each number of slots and in
-/// each style, whichever values they are read as, and whichever tables the printed values have.
+/// Two source texts have one pair of printed texts at most, in each mode of checks, by each rule for slots, at each number of
+/// slots and in each style, whichever values they are read as, and whichever tables the printed values have.
 pub fn one_pair_of_texts_by(
     domain: &[u8],
     problem: &[u8],

@@ -71,7 +71,8 @@ pub fn headline_at_bound_by(
     ensures { PrintedHeadlineAtBoundBy (SpellingBy rule.now) domain.now problem.now checks.now slots value.now }
 {}
 
-/// With the lowest free slots each schedule of a solution that never has more tasks pending than there are slots has exactly one plan.
+/// With the lowest free slots each schedule of a solution that never has more tasks pending than there are slots has exactly one
+/// plan.
 pub fn each_schedule_has_one_plan(
     domain: &[u8],
     problem: &[u8],

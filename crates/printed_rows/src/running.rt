@@ -9,7 +9,7 @@ use bound_calc::method_precs::compile;
 use htn_base::{Memory, Text};
 use outside_io::{DiskFiles, Files, GetError};
 use pddl_printer::{print_domain, print_problem};
-use plan_model::{Checks, Compiled, Hddl, Pddl, Style};
+use plan_model::{Checks, Compiled, Hddl, Pddl, Slots, Style};
 use problem_texts::{Printed, Sizes, Texts, sizes, texts_of};
 use slot_encoder::encode;
 use std::alloc::{AllocError, Global};
@@ -191,8 +191,8 @@ fn texts_as_long(
     requires listed { AreListed compiled.now.hddl.types }
     requires compiled { IsCompiledProblem compiled.now }
 {
-    let sizes = sizes(alloc, compiled, slots, &style)?;
-    match texts_of(alloc, compiled, slots, &style, MOST_PRINTED)? {
+    let sizes = sizes(alloc, compiled, slots, &Slots::Any, &style)?;
+    match texts_of(alloc, compiled, slots, &Slots::Any, &style, MOST_PRINTED)? {
         Printed::Whole(texts) => {
             if are_as_long(&texts, &sizes) {
                 Ok(texts)
@@ -216,7 +216,14 @@ fn is_told(
     requires listed { AreListed compiled.now.hddl.types }
     requires compiled { IsCompiledProblem compiled.now }
 {
-    match texts_of(alloc, compiled, slots, &style, length.saturating_sub(1))? {
+    match texts_of(
+        alloc,
+        compiled,
+        slots,
+        &Slots::Any,
+        &style,
+        length.saturating_sub(1),
+    )? {
         Printed::Whole(texts) => {
             drop(texts);
             Ok(false)

@@ -1,5 +1,6 @@
 mod Ended
 mod Putting
+mod LowerParts
 mod Styles
 mod FewSlots
 mod Greatest

@@ -4,3 +4,4 @@ pub mod OrderParts
 pub mod Works
 pub mod Methods
 pub mod Values
+pub mod FirstValues

@@ -1,6 +1,8 @@
 -- The lengths of a text with few slots, as they are counted, and when they tell those with more.
 -- Source: this project's.
 use Rattle.std.specs.Prelude.{ℕ, ◌≡◌, ◌<◌, ◌≤◌}
+use Rattle.plan_model.specs.declared.options.Slots.{Slots}
+use Rattle.plan_model.specs.declared.options.Slots.TheVariants.{Any}
 use Rattle.plan_model.specs.declared.values.Compiled.{Compiled}
 use Rattle.slot_encoding.specs.EncodedNames.{first_slot}
 use Rattle.slot_encoding.specs.encoded_texts.NamedObjects.{of_compiled}
@@ -13,7 +15,8 @@ pub record AreCapped (one two ten : ℕ) (counted : FewSlots) : Type 0 where
   pub two_is : counted.two ≡ capped two
   pub ten_is : counted.ten ≡ capped ten
 
--- slots past the tenth, and the source names no object past its own, such as a slot
-pub record GrowsEvenly (c : Compiled) (slots : ℕ) : Type 0 where
+-- a method takes any free slots, there are some past the tenth, and the source names no object past its own, such as a slot
+pub record GrowsEvenly (rule : Slots) (c : Compiled) (slots : ℕ) : Type 0 where
+  pub any : rule ≡ Any
   pub many : 10 < slots
   pub declared : of_compiled c ≤ first_slot c

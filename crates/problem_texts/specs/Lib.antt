@@ -3,3 +3,4 @@ pub mod ArePrinted
 pub mod Lengths
 pub mod FewSlots
 pub mod Pages
+pub mod LowerParts

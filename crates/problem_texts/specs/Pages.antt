@@ -14,7 +14,7 @@ use Rattle.pddl_printer.specs.InForm.{value_in}
 use Rattle.pddl_printer.specs.Measured.{IsMeasured, range_of}
 use Rattle.pddl_printer.specs.Texts.{actions_text}
 use Rattle.slot_encoder.specs.declared.encoding.Encoding.{Encoding}
-use Rattle.slot_encoder.specs.Encodings.{IsEncoding, all_actions, with_actions}
+use Rattle.slot_encoder.specs.Encodings.{IsEncoding, all_actions, lower_in, value_by}
 use Rattle.plan_texts.specs.PrintedTexts.{domain_text, problem_text}
 use Rattle.problem_texts.specs.Slots.{slots_of}
 use Rattle.problem_texts.specs.Lengths.{IsFirstPast}
@@ -28,9 +28,9 @@ abbrev pub range_in : Compiled → ℕ → Style → Option Range
 range_in c slots Adl = None
 range_in c slots Flat = Some (slots_of c slots)
 
--- the encoded value, with all its actions
+-- the encoded value, with all its actions and all that is true at the start
 abbrev pub encoded : Compiled → Encoding → Pddl
-encoded c e = with_actions e.head (all_actions c e)
+encoded c e = value_by e.rule c e
 
 -- the same in this style
 abbrev pub encoded_in : Compiled → Encoding → Style → Pddl
@@ -50,6 +50,7 @@ actions_in pages actions = actions_text pages.encoding.now.head (range_of pages.
 pub record ArePages (pages : Pages) : Type 0 where
   pub encoding : IsEncoding pages.compiled.now pages.encoding.now
   pub measured : IfSome pages.written (IsMeasured pages.encoding.now.head)
+  pub lower : pages.lower ≡ lower_in pages.compiled.now pages.encoding.now
 
 -- all bytes stand behind the old text, and are no more than the limit; or they are more, and n is their number, as far as 64 bits go
 abbrev pub IsAppended : (bytes : List ℕ) (limit : ℕ) (old new : List ℕ) → Ended → Type 0

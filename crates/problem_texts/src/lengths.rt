@@ -13,12 +13,13 @@ use crate::named_objects::named_objects;
 use crate::pages::Pages;
 use crate::printing::Sizes;
 use htn_base::{Memory, Text};
-use plan_model::{Compiled, Style};
+use plan_model::{Compiled, Slots, Style};
 use slot_encoder::Encoding;
 use std::alloc::Global;
 use text_forms::sheets::Ended;
 
-/// The lengths of the two texts with so many slots. Those with many slots are worked out from those with few.
+/// The lengths of the two texts with so many slots, by which free ones a method takes. Those with many slots are worked out from those
+/// with few where it takes any; where it takes the lowest, what is true of slots grows by their square, and all is counted.
 pub fn sizes(
     alloc: Global,
     c: &Compiled,
@@ -30,18 +31,21 @@ pub fn sizes(
     requires listed { AreListed c.now.hddl.types }
     ensures sized { IfOk result (AreSizesOf rule.now c.now slots style.now) }
 {
-    if grows_evenly(c, slots, 2) {
-        sizes_from_few(alloc, c, slots, style)
+    if grows_evenly(c, slots, rule, 2) {
+        sizes_from_few(alloc, c, slots, rule, style)
     } else {
-        counted(alloc, c, slots, style)
+        counted(alloc, c, slots, rule, style)
     }
 }
 
 /// Whether there are so many times more slots than names and facts of the source, than parts of what it declares, and than parts of
-/// its schemas and its goal, and it names no slot.
-pub(crate) fn grows_evenly(c: &Compiled, slots: u32, times: usize) -> bool
-    ensures { OnTrue result (GrowsEvenly c.now slots) }
+/// its schemas and its goal, it names no slot, and a method takes any free slots.
+pub(crate) fn grows_evenly(c: &Compiled, slots: u32, rule: &Slots, times: usize) -> bool
+    ensures { OnTrue result (GrowsEvenly rule.now c.now slots) }
 {
+    if let Slots::First = rule {
+        return false;
+    }
     let names = c.hddl.names.len().saturating_add(c.hddl.init.len());
     let mut own = names.saturating_add(c.hddl.types.parents.len());
     for union in c.hddl.types.unions.as_slice() {
@@ -66,16 +70,17 @@ pub(crate) fn sizes_from_few(
     alloc: Global,
     c: &Compiled,
     slots: u32,
+    rule: &Slots,
     style: &Style,
 ) -> Result<Sizes, Memory>
     requires compiled { IsCompiledProblem c.now }
     requires listed { AreListed c.now.hddl.types }
-    requires evenly { GrowsEvenly c.now slots }
-    ensures sized { IfOk result (AreSizesOf c.now slots style.now) }
+    requires evenly { GrowsEvenly rule.now c.now slots }
+    ensures sized { IfOk result (AreSizesOf rule.now c.now slots style.now) }
 {
-    let one = counted(alloc, c, 1, style)?;
-    let two = counted(alloc, c, 2, style)?;
-    let ten = counted(alloc, c, 10, style)?;
+    let one = counted(alloc, c, 1, rule, style)?;
+    let two = counted(alloc, c, 2, rule, style)?;
+    let ten = counted(alloc, c, 10, rule, style)?;
     let domain = FewSlots {
         one: one.domain,
         two: two.domain,
@@ -93,12 +98,18 @@ pub(crate) fn sizes_from_few(
 }
 
 /// The lengths by the same printing, of which nothing is kept.
-fn counted(alloc: Global, c: &Compiled, slots: u32, style: &Style) -> Result<Sizes, Memory>
+fn counted(
+    alloc: Global,
+    c: &Compiled,
+    slots: u32,
+    rule: &Slots,
+    style: &Style,
+) -> Result<Sizes, Memory>
     requires compiled { IsCompiledProblem c.now }
     requires listed { AreListed c.now.hddl.types }
-    ensures sized { IfOk result (AreSizesOf c.now slots style.now) }
+    ensures sized { IfOk result (AreSizesOf rule.now c.now slots style.now) }
 {
-    let encoding = Encoding::new(alloc, c, slots, &Style::Adl)?;
+    let encoding = Encoding::new(alloc, c, slots, rule, &Style::Adl)?;
     let lengths = lengths_of(alloc, c, &encoding, style);
     drop(encoding);
     lengths

@@ -3,22 +3,26 @@ ghost use Rattle.plan_texts.specs.PrintedTexts.{domain_text, problem_text};
 ghost use Rattle.text_forms.specs.sheets.Sheets.{Wrote};
 ghost use Rattle.slot_encoder.specs.Encodings.{IsEncoding};
 ghost use Rattle.problem_texts.specs.Pages.{ArePages, IsAppended, actions, actions_in, encoded_in, value_of};
+ghost use Rattle.problem_texts.specs.LowerParts.{lower_facts, lowest_with};
 
 use crate::ranges::slots_of;
-use htn_base::{Memory, Text};
-use pddl_printer::{Split, Written, put_domain_start, put_problem, put_split};
+use htn_base::{Memory, Text, number};
+use pddl_printer::{
+    Lower, Lowest, Range, Split, Written, put_domain_start, put_problem, put_split,
+};
 use plan_model::{Compiled, Style};
-use slot_encoder::Encoding;
+use slot_encoder::{Encoding, LowerSlots};
 use std::alloc::Global;
 use text_forms::sheets::{Ended, Sheet};
 
 /// The two pages of an encoded problem: its domain and its problem, with the quantifiers over the slots as they are or written
-/// out.
+/// out, and with what is said of lower slots, where a method takes the lowest free ones.
 #[derive(Clone, Copy)]
 pub(crate) struct Pages<'a> {
     pub(crate) compiled: &'a Compiled,
     pub(crate) encoding: &'a Encoding,
     pub(crate) written: Option<Written>,
+    pub(crate) lower: Option<LowerSlots>,
 }
 
 impl<'a> Pages<'a> {
@@ -41,6 +45,7 @@ impl<'a> Pages<'a> {
             compiled: c,
             encoding,
             written,
+            lower: encoding.lower_slots(c)?,
         })
     }
 }
@@ -71,7 +76,8 @@ impl Pages<'_> {
             (IsAppended (problem_text (value_of self.now)) limit into.old into.new) }
     {
         let mut sheet = Sheet::new(into, limit);
-        put_problem(&self.encoding.head, self.written, &mut sheet);
+        let lower = self.lower_facts();
+        put_problem(&self.encoding.head, lower, self.written, &mut sheet);
         sheet.answer()
     }
 
@@ -82,17 +88,50 @@ impl Pages<'_> {
     {
         for k in 0..self.encoding.count(self.compiled) {
             let action = self.encoding.action(alloc, self.compiled, k)?;
+            let lowest = self.lowest_with(action.params.len())?;
             let split = Split {
                 name: action.name,
                 params: action.params.as_slice(),
                 before: action.before.as_slice(),
                 spare: action.spare,
                 behind: action.behind.as_slice(),
+                lowest,
                 eff: &action.eff,
             };
             put_split(&self.encoding.head, self.written, &split, sheet);
             drop(action);
         }
         Ok(())
+    }
+
+    /// What is true of lower slots, where a method takes the lowest free ones.
+    fn lower_facts(&self) -> Option<Lower>
+        ensures { result ≡ lower_facts self.now }
+    {
+        let lower = self.lower?;
+        Some(Lower {
+            predicate: lower.less,
+            range: Range {
+                ty: 1,
+                first: lower.first,
+                count: self.encoding.slots,
+            },
+        })
+    }
+
+    /// How it is asked, behind so many variables, that new slots are the lowest free ones.
+    fn lowest_with(&self, variables: usize) -> Result<Option<Lowest>, Memory>
+        ensures { IfOk result (λ lowest. lowest ≡ lowest_with self.lower variables) }
+    {
+        let x = number(variables)?;
+        match self.lower {
+            None => Ok(None),
+            Some(lower) => Ok(Some(Lowest {
+                free: lower.free,
+                less: lower.less,
+                other: lower.other,
+                x,
+            })),
+        }
     }
 }

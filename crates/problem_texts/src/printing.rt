@@ -44,9 +44,9 @@ pub struct Sizes {
     pub problem: u64,
 }
 
-/// The two texts with so many slots, if neither is longer than the limit: what is printed is counted, so a text past the limit is not
-/// kept, and its length is known without it. The problem is one that was compiled; its types are few, and their parents and unions are
-/// listed.
+/// The two texts with so many slots, by which free ones a method takes, if neither is longer than the limit: what is printed is counted,
+/// so a text past the limit is not kept, and its length is known without it. The problem is one that was compiled; its types are few, and
+/// their parents and unions are listed.
 pub fn texts_of(
     alloc: Global,
     c: &Compiled,
@@ -60,8 +60,8 @@ pub fn texts_of(
     ensures printed { IfOk result (ArePrintedWithin rule.now c.now slots style.now limit) }
 {
     // With 32 times more slots than what the source writes the lengths take little of the time of printing.
-    if grows_evenly(c, slots, 32) {
-        let sizes = sizes_from_few(alloc, c, slots, style)?;
+    if grows_evenly(c, slots, rule, 32) {
+        let sizes = sizes_from_few(alloc, c, slots, rule, style)?;
         if sizes.domain > limit {
             return Ok(Printed::TooLong(sizes.domain));
         }
@@ -69,7 +69,7 @@ pub fn texts_of(
             return Ok(Printed::TooLong(sizes.problem));
         }
     }
-    let encoding = Encoding::new(alloc, c, slots, &Style::Adl)?;
+    let encoding = Encoding::new(alloc, c, slots, rule, &Style::Adl)?;
     let printed = texts_within(alloc, c, &encoding, style, limit);
     drop(encoding);
     printed

@@ -4,14 +4,18 @@ use Rattle.std.proofs.lemmas.List.{take_more}
 use Rattle.std.proofs.lemmas.Option.{get_or_from_slice_get, slice_get_within}
 use Rattle.std.proofs.lemmas.Result.{IfOk-weaker}
 use Rattle.plan_model.specs.task_networks.Spelling.{numbers}
+use Rattle.plan_model.specs.declared.options.Slots.{Slots}
+use Rattle.plan_model.specs.declared.options.Slots.TheVariants.{Any, First}
 use Rattle.plan_model.specs.declared.options.Style.{Style}
 use Rattle.plan_model.specs.declared.schemas.ActionSchema.{ActionSchema}
 use Rattle.plan_model.specs.declared.schemas.MethodPlan.{MethodPlan}
 use Rattle.plan_model.specs.declared.values.Compiled.{Compiled}
 use Rattle.slot_encoding.specs.EncodedActions.{encoded_method, encoded_check, encoded_action}
-use Rattle.slot_encoding.specs.EncodedValue.{encoded_methods, encoded_checks, encoded_source, encoded_actions}
+use Rattle.slot_encoding.specs.EncodedValue.{encoded_methods, encoded_checks, encoded_source}
+use Rattle.slot_encoding.specs.FirstFree.{first_method, first_methods}
 use Rattle.slot_encoding.specs.slot_declarations.Pieces.{checked_from}
-use Rattle.slot_encoder.specs.Encodings.{whole}
+use Rattle.slot_encoder.specs.Rules as rules
+use Rattle.slot_encoder.specs.Encodings.{whole_by}
 use Rattle.slot_encoding.specs.slot_declarations.Frames.{AreChecks}
 use Rattle.slot_encoding.specs.declared.slot_declarations.basis.Checks.{Checks}
 use Rattle.slot_encoder.specs.declared.split_action.SplitAction.{SplitAction}
@@ -43,8 +47,16 @@ module _ {X Y : Type 0} (F : ℕ → List X → List Y) (h : ℕ → X → Y) (f
   along-length none (x ∷ xs) m = ap length (first m x xs) ∙ ap suc (along-length none xs (suc m))
 
 module _ (c : Compiled) (names : List (List ℕ)) (b : ℕ) (style : Style) where
-  pub method-at : (i : ℕ) (d : MethodPlan) → i < length c.methods → slice_get (encoded_methods c names b style 0 c.methods) i ≡ Some (encoded_method c names b style i (get_or c.methods i d))
-  method-at i d l = along-at (encoded_methods c names b style) (encoded_method c names b style) (λ m x xs. refl) c.methods 0 i d l ∙ ap (λ k. Some (encoded_method c names b style k (get_or c.methods i d))) (let e : 0 + i ≡ i = omega arith in e)
+  abbrev pub method_by : Slots → ℕ → MethodPlan → ActionSchema
+  method_by Any = encoded_method c names b style
+  method_by First = first_method c names b style
+
+  methods-from : (rule : Slots) (i : ℕ) (d : MethodPlan) → i < length c.methods → slice_get (rules.methods rule c names b style) i ≡ Some (method_by rule (0 + i) (get_or c.methods i d))
+  methods-from Any i d l = along-at (encoded_methods c names b style) (encoded_method c names b style) (λ m x xs. refl) c.methods 0 i d l
+  methods-from First i d l = along-at (first_methods c names b style) (first_method c names b style) (λ m x xs. refl) c.methods 0 i d l
+
+  pub method-at : (rule : Slots) (i : ℕ) (d : MethodPlan) → i < length c.methods → slice_get (rules.methods rule c names b style) i ≡ Some (method_by rule i (get_or c.methods i d))
+  method-at rule i d l = methods-from rule i d l ∙ ap (λ k. Some (method_by rule k (get_or c.methods i d))) (let e : 0 + i ≡ i = omega arith in e)
 
   pub source-at : (i : ℕ) (d : ActionSchema) → i < length c.hddl.actions → slice_get (encoded_source c names b style 0 c.hddl.actions) i ≡ Some (encoded_action c names b style i (get_or c.hddl.actions i d))
   source-at i d l = along-at (encoded_source c names b style) (encoded_action c names b style) (λ m x xs. refl) c.hddl.actions 0 i d l ∙ ap (λ k. Some (encoded_action c names b style k (get_or c.hddl.actions i d))) (let e : 0 + i ≡ i = omega arith in e)
@@ -69,8 +81,9 @@ module _ (c : Compiled) (names : List (List ℕ)) (b : ℕ) (style : Style) wher
       by true (suc j) l r = r j (omega arith)
       by false j l r = r j l
 
-  pub methods-length : length (encoded_methods c names b style 0 c.methods) ≡ length c.methods
-  methods-length = along-length (encoded_methods c names b style) (encoded_method c names b style) (λ m x xs. refl) (λ m. refl) c.methods 0
+  methods-length : (rule : Slots) → length (rules.methods rule c names b style) ≡ length c.methods
+  methods-length Any = along-length (encoded_methods c names b style) (encoded_method c names b style) (λ m x xs. refl) (λ m. refl) c.methods 0
+  methods-length First = along-length (first_methods c names b style) (first_method c names b style) (λ m x xs. refl) (λ m. refl) c.methods 0
 
   source-length : length (encoded_source c names b style 0 c.hddl.actions) ≡ length c.hddl.actions
   source-length = along-length (encoded_source c names b style) (encoded_action c names b style) (λ m x xs. refl) (λ m. refl) c.hddl.actions 0
@@ -87,29 +100,35 @@ module _ (c : Compiled) (names : List (List ℕ)) (b : ℕ) (style : Style) wher
   pub checks-length : length (encoded_checks c names b style 0 c.methods) ≡ length (checked_from 0 c.methods)
   checks-length = checks_length c.methods 0
 
-  pub actions-length : length (encoded_actions c names b style) ≡ length c.methods + length (checked_from 0 c.methods) + length c.hddl.actions
-  actions-length =
-      let a = length-append (encoded_methods c names b style 0 c.methods ++ encoded_checks c names b style 0 c.methods) (encoded_source c names b style 0 c.hddl.actions) in
-      let e = length-append (encoded_methods c names b style 0 c.methods) (encoded_checks c names b style 0 c.methods) in
-      omega (arith, a, e, methods-length, checks-length, source-length)
+  module _ (rule : Slots) where
+    abbrev methods : List ActionSchema
+    methods = rules.methods rule c names b style
 
-  -- of the first ones, of the next ones, and of the last ones
-  pub at-method : (k : ℕ) → k < length c.methods → slice_get (encoded_actions c names b style) k ≡ slice_get (encoded_methods c names b style 0 c.methods) k
-  at-method k l =
-      get-left (encoded_methods c names b style 0 c.methods ++ encoded_checks c names b style 0 c.methods) (encoded_source c names b style 0 c.hddl.actions) k
-      (let e = length-append (encoded_methods c names b style 0 c.methods) (encoded_checks c names b style 0 c.methods) in omega (arith, e, l, methods-length))
-      ∙ get-left (encoded_methods c names b style 0 c.methods) (encoded_checks c names b style 0 c.methods) k (omega (arith, l, methods-length))
+    abbrev checks : List ActionSchema
+    checks = encoded_checks c names b style 0 c.methods
 
-  pub at-check : (j k : ℕ) → k ≡ length c.methods + j → j < length (checked_from 0 c.methods) → slice_get (encoded_actions c names b style) k ≡ slice_get (encoded_checks c names b style 0 c.methods) j
-  at-check j k e l =
-      get-left (encoded_methods c names b style 0 c.methods ++ encoded_checks c names b style 0 c.methods) (encoded_source c names b style 0 c.hddl.actions) k
-      (let g = length-append (encoded_methods c names b style 0 c.methods) (encoded_checks c names b style 0 c.methods) in omega (arith, e, g, l, methods-length, checks-length))
-      ∙ get-right (encoded_methods c names b style 0 c.methods) (encoded_checks c names b style 0 c.methods) j k (omega (arith, e, methods-length))
+    abbrev sources : List ActionSchema
+    sources = encoded_source c names b style 0 c.hddl.actions
 
-  pub at-source : (a k : ℕ) → k ≡ length c.methods + length (checked_from 0 c.methods) + a → slice_get (encoded_actions c names b style) k ≡ slice_get (encoded_source c names b style 0 c.hddl.actions) a
-  at-source a k e =
-      get-right (encoded_methods c names b style 0 c.methods ++ encoded_checks c names b style 0 c.methods) (encoded_source c names b style 0 c.hddl.actions) a k
-      (let g = length-append (encoded_methods c names b style 0 c.methods) (encoded_checks c names b style 0 c.methods) in omega (arith, e, g, methods-length, checks-length))
+    pub actions-length : length (rules.actions rule c names b style) ≡ length c.methods + length (checked_from 0 c.methods) + length c.hddl.actions
+    actions-length =
+        let a = length-append (methods ++ checks) sources in
+        let e = length-append methods checks in
+        omega (arith, a, e, methods-length rule, checks-length, source-length)
+
+    -- of the first ones, of the next ones, and of the last ones
+    pub at-method : (k : ℕ) → k < length c.methods → slice_get (rules.actions rule c names b style) k ≡ slice_get methods k
+    at-method k l =
+        get-left (methods ++ checks) sources k (let e = length-append methods checks in omega (arith, e, l, methods-length rule))
+        ∙ get-left methods checks k (omega (arith, l, methods-length rule))
+
+    pub at-check : (j k : ℕ) → k ≡ length c.methods + j → j < length (checked_from 0 c.methods) → slice_get (rules.actions rule c names b style) k ≡ slice_get checks j
+    at-check j k e l =
+        get-left (methods ++ checks) sources k (let g = length-append methods checks in omega (arith, e, g, l, methods-length rule, checks-length))
+        ∙ get-right methods checks j k (omega (arith, e, methods-length rule))
+
+    pub at-source : (a k : ℕ) → k ≡ length c.methods + length (checked_from 0 c.methods) + a → slice_get (rules.actions rule c names b style) k ≡ slice_get sources a
+    at-source a k e = get-right (methods ++ checks) sources a k (let g = length-append methods checks in omega (arith, e, g, methods-length rule, checks-length))
 
 -- the action of a check
 pub check-at : (c : Compiled) (names : List (List ℕ)) (b : ℕ) (style : Style) (v : Checks) (are : AreChecks c.methods v) (j m : ℕ) (d : MethodPlan) → j < length v.methods → m ≡ get_or v.methods j 0
@@ -121,12 +140,16 @@ check-at c names b style v are j m d l e =
     h ∙ ap (λ n. Some (encoded_check c names b style n (get_or c.methods i d))) (sym s) ∙ ap (λ n. Some (encoded_check c names b style m (get_or c.methods n d))) (sym t)
 
 -- an action that was made, at its place, and among further ones
-module _ {M : Type 0} (made : Result SplitAction M) where
-  pub placed : (xs : List ActionSchema) (k : ℕ) (s : ActionSchema) → slice_get xs k ≡ Some s → IfOk made (λ a. whole a ≡ s) → IfOk made (λ a. slice_get xs k ≡ Some (whole a))
-  placed xs k s e h = IfOk-weaker made (λ a. whole a ≡ s) (λ a. slice_get xs k ≡ Some (whole a)) (λ a g. e ∙ ap Some (sym g)) h
+module _ {M : Type 0} (made : Result SplitAction M) (c : Compiled) (names : List (List ℕ)) (b : ℕ) (style : Style) where
+  abbrev Made : Slots → SplitAction → ActionSchema
+  Made rule = whole_by rule c names b style
 
-  pub placed_among : (xs ys : List ActionSchema) (k j : ℕ) → slice_get xs k ≡ slice_get ys j → IfOk made (λ a. slice_get ys j ≡ Some (whole a)) → IfOk made (λ a. slice_get xs k ≡ Some (whole a))
-  placed_among xs ys k j e h = IfOk-weaker made (λ a. slice_get ys j ≡ Some (whole a)) (λ a. slice_get xs k ≡ Some (whole a)) (λ a g. e ∙ g) h
+  pub placed : (xs : Slots → List ActionSchema) (k : ℕ) (s : ActionSchema) → ((rule : Slots) → slice_get (xs rule) k ≡ Some s) → IfOk made (λ a. (rule : Slots) → Made rule a ≡ s) → IfOk made (λ a. (rule : Slots) → slice_get (xs rule) k ≡ Some (Made rule a))
+  placed xs k s e h = IfOk-weaker made (λ a. (rule : Slots) → Made rule a ≡ s) (λ a. (rule : Slots) → slice_get (xs rule) k ≡ Some (Made rule a)) (λ a g rule. e rule ∙ ap Some (sym (g rule))) h
+
+  pub placed_among : (xs ys : Slots → List ActionSchema) (k j : ℕ) → ((rule : Slots) → slice_get (xs rule) k ≡ slice_get (ys rule) j)
+      → IfOk made (λ a. (rule : Slots) → slice_get (ys rule) j ≡ Some (Made rule a)) → IfOk made (λ a. (rule : Slots) → slice_get (xs rule) k ≡ Some (Made rule a))
+  placed_among xs ys k j e h = IfOk-weaker made (λ a. (rule : Slots) → slice_get (ys rule) j ≡ Some (Made rule a)) (λ a. (rule : Slots) → slice_get (xs rule) k ≡ Some (Made rule a)) (λ a g rule. e rule ∙ g rule) h
 
 -- the first k items, and the next one
 pub take_put : {A M : Type 0} (xs : List A) (k : ℕ) (now new : List A) (made : Result A M) → now ≡ take k xs → IfOk made (λ x. slice_get xs k ≡ Some x) → IsOkAnd made (λ x. new ≡ now ++ x ∷ []) → new ≡ take (k + 1) xs

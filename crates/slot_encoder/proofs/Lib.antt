@@ -2,7 +2,9 @@ pub mod Numbered
 pub mod ActionPlaces
 pub mod GuardAtoms
 pub mod Splits
+pub mod ByRule
 pub mod KeptNumbers
 pub mod SeenAtoms
 pub mod SingleAtoms
 pub mod WholeValues
+pub mod MoreWords

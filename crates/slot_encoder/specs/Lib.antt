@@ -1,5 +1,6 @@
+pub mod Rules
 pub mod Parts
 pub mod Pieces
-pub mod Made
 pub mod Encodings
+pub mod Made
 pub mod SeenFacts

@@ -1,8 +1,9 @@
 -- What is true at the start, the goal and the actions of the printed problem, each part as it is made from the frame.
 -- Source: this project's encoding, after Alford et al., "Bound to Plan", ICAPS 2016.
-use Rattle.std.specs.Prelude.{ℕ, suc, ◌≡◌, ◌+◌, ◌-◌, cond, List, [], ◌∷◌, ◌++◌, map, length, slice_index, codes, decimal}
+use Rattle.std.specs.Prelude.{ℕ, suc, ◌≡◌, ◌+◌, ◌-◌, cond, Option, Some, List, [], ◌∷◌, ◌++◌, map, length, slice_index, slice_get, codes, decimal}
 use Rattle.std.specs.List.{flat_map}
 use Rattle.htn_base.specs.declared.name.Name.{Name}
+use Rattle.plan_model.specs.declared.options.Slots.{Slots}
 use Rattle.plan_model.specs.declared.terms.Param.{Param}
 use Rattle.plan_model.specs.declared.terms.Term.{Term}
 use Rattle.plan_model.specs.declared.terms.Term.TheVariants.{Var, Obj}
@@ -20,6 +21,7 @@ use Rattle.plan_model.specs.declared.networks.Guard.{Guard}
 use Rattle.plan_model.specs.declared.networks.Pair.{Pair}
 use Rattle.plan_model.specs.declared.schemas.ActionSchema.{ActionSchema}
 use Rattle.plan_model.specs.declared.schemas.MethodPlan.{MethodPlan}
+use Rattle.plan_model.specs.declared.schemas.Predicate.{Predicate}
 use Rattle.plan_model.specs.declared.values.Pddl.{Pddl}
 use Rattle.plan_model.specs.plan_meaning.Network.{InTypeOf}
 use Rattle.plan_model.specs.plan_meaning.Compilation.{Keeps}
@@ -29,9 +31,15 @@ use Rattle.order_encoder.specs.OrderFormulas as order
 use Rattle.slot_encoding.specs.EncodedNames as encoded
 use Rattle.slot_encoding.specs.EncodedActions as actions
 use Rattle.slot_encoding.specs.EncodedValue as value
+use Rattle.slot_encoding.specs.FirstFree as first
 use Rattle.slot_encoder.specs.Pieces.{encoded_goal}
+use Rattle.slot_encoder.specs.Rules as rules
 use Rattle.slot_encoder.specs.Parts as parts
+use Rattle.slot_encoder.specs.Encodings as encodings
+use Rattle.slot_encoder.specs.declared.lower_slots.LowerSlots.{LowerSlots}
+use Rattle.slot_encoder.specs.declared.split_action.SplitAction.{SplitAction}
 use Rattle.slot_encoding.specs.slot_declarations.Made as declarations
+use Rattle.slot_encoding.specs.declared.slot_declarations.declarations.Declarations.{Declarations}
 use Rattle.slot_encoding.specs.declared.slot_declarations.frame.Frame.{Frame}
 
 module _ (f : Frame) where
@@ -245,6 +253,29 @@ module _ (f : Frame) where
   abbrev pub slots_free : List Formula
   slots_free = order.free_parts pairs b 0 style (encoded.free_predicate c)
 
-  -- all but the actions
-  abbrev pub IsHead : Pddl → Type 0
-  IsHead = parts.IsHead c words b style
+  -- all but the actions and what is true of lower slots, by which free slots a method takes
+  abbrev pub IsHead : Slots → Pddl → Type 0
+  IsHead rule = parts.IsHead rule c words b style
+
+  abbrev pub AreDeclared : Slots → Declarations → Type 0
+  AreDeclared rule = parts.AreDeclared rule c words b style
+
+  -- the predicate for lower slots, and how they are said
+  abbrev pub less : Predicate
+  less = first.less c words b style
+
+  abbrev pub lower_slots : Slots → Option LowerSlots
+  lower_slots rule = rules.lower_slots rule c words b style
+
+  -- a split action is this one, whichever free slots a method takes
+  abbrev pub IsMethod : ℕ → SplitAction → Type 0
+  IsMethod m a = (rule : Slots) → slice_get (rules.methods rule c words b style) m ≡ Some (encodings.whole_by rule c words b style a)
+
+  abbrev pub IsCheck : ℕ → SplitAction → Type 0
+  IsCheck j a = (rule : Slots) → slice_get (check_actions c.methods) j ≡ Some (encodings.whole_by rule c words b style a)
+
+  abbrev pub IsSource : ℕ → ActionSchema → SplitAction → Type 0
+  IsSource a action s = (rule : Slots) → encodings.whole_by rule c words b style s ≡ source_action a action
+
+  abbrev pub IsAction : ℕ → SplitAction → Type 0
+  IsAction k a = (rule : Slots) → slice_get (rules.actions rule c words b style) k ≡ Some (encodings.whole_by rule c words b style a)

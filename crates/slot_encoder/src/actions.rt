@@ -1,6 +1,5 @@
-ghost use Rattle.std.specs.Prelude.{◌≡◌, ◌<◌, Some, length, slice_get, IfOk};
+ghost use Rattle.std.specs.Prelude.{◌≡◌, ◌<◌, length, IfOk};
 ghost use Rattle.slot_encoding.specs.EncodedNames as names;
-ghost use Rattle.slot_encoder.specs.Encodings.{whole};
 ghost use Rattle.slot_encoding.specs.slot_declarations.Frames.{IsFrame};
 ghost use Rattle.slot_encoder.specs.Made as made;
 
@@ -16,7 +15,7 @@ use std::alloc::Global;
 pub(crate) fn action_at(alloc: Global, frame: &Frame<'_>, k: u32) -> Result<SplitAction, Memory>
     requires frame { IsFrame frame.now }
     requires some { k < length (made.all_actions frame.now) }
-    ensures { IfOk result (λ a. slice_get (made.all_actions frame.now) k ≡ Some (whole a)) }
+    ensures { IfOk result (made.IsAction frame.now k) }
 {
     let methods = frame.compiled.methods.len() as u32;
     let checks = frame.basis.checks.methods.len() as u32;

@@ -4,8 +4,9 @@
 //! predicates, and on the order formulas of `order_encoder`. Here are the first state, the goal and the actions.
 //! The contracts used above: `Encoding` gives the defined value part by part, over a table that has all its words: all but the
 //! actions at once, and then one action at a time (`action`), so that no more than one need be there. A method's action is as long
-//! as the square of its new slots, so it comes in parts (`SplitAction`), and `whole` joins them. `encode` gives the whole value,
-//! which can be printed wherever the problem is sound.
+//! as the square of its new slots, so it comes in parts (`SplitAction`), and `whole` joins them. Where a method takes the lowest free
+//! slots, neither what that asks of the new ones nor what is true of lower ones is made: `LowerSlots` tells by which numbers it is
+//! said. `encode` gives the whole value where it takes any, which can be printed wherever the problem is sound.
 #![tactic(auto)]
 
 mod actions;
@@ -18,6 +19,7 @@ mod encoding;
 mod formulas;
 mod goals;
 mod initial;
+mod lower_slots;
 mod methods;
 mod single;
 mod split_action;
@@ -27,4 +29,5 @@ mod variables;
 mod works;
 
 pub use encoding::{Encoding, encode};
+pub use lower_slots::LowerSlots;
 pub use split_action::SplitAction;

@@ -1,6 +1,5 @@
-ghost use Rattle.std.specs.Prelude.{◌≡◌, ◌<◌, ◌++◌, Some, length, map, slice_get, IfOk, OnOk};
+ghost use Rattle.std.specs.Prelude.{◌≡◌, ◌<◌, ◌++◌, length, map, IfOk, OnOk};
 ghost use Rattle.plan_model.specs.task_networks.Spelling.{numbers};
-ghost use Rattle.slot_encoder.specs.Encodings.{whole};
 ghost use Rattle.slot_encoding.specs.slot_declarations.Frames.{IsFrame};
 ghost use Rattle.slot_encoder.specs.Parts.{AreVariables};
 ghost use Rattle.slot_encoder.specs.Made as made;
@@ -29,8 +28,7 @@ pub(crate) fn encoded_method(
 ) -> Result<SplitAction, Memory>
     requires frame { IsFrame frame.now }
     requires some { m < length frame.now.compiled.now.methods }
-    ensures { IfOk result (λ a.
-        slice_get (made.method_actions frame.now frame.now.compiled.now.methods) m ≡ Some (whole a)) }
+    ensures { IfOk result (made.IsMethod frame.now m) }
 {
     let check = check_predicate(frame, m)?;
     let plan = &frame.compiled.methods.as_slice()[m as usize];

@@ -55,7 +55,7 @@ impl Drop for Parts {
 
 impl Parts {
     ghost use Rattle.std.specs.Prelude.{[]};
-    ghost use Rattle.slot_encoder.specs.Encodings.{joined};
+    ghost use Rattle.slot_encoder.specs.Encodings.{split};
 
     /// No parts yet.
     pub(crate) fn new(alloc: Global) -> Parts
@@ -71,7 +71,7 @@ impl Parts {
 
     /// The action of this name with these parts and so many new slots.
     pub(crate) fn into_action(self, name: Name, spare: u32) -> SplitAction
-        ensures { whole result ≡ joined name spare self }
+        ensures { result ≡ split name spare self }
     {
         let Parts {
             params,

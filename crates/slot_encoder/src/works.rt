@@ -1,5 +1,4 @@
-ghost use Rattle.std.specs.Prelude.{◌≡◌, ◌<◌, ◌++◌, Some, length, slice_get, IfOk, OnOk};
-ghost use Rattle.slot_encoder.specs.Encodings.{whole};
+ghost use Rattle.std.specs.Prelude.{◌≡◌, ◌<◌, ◌++◌, length, IfOk, OnOk};
 ghost use Rattle.slot_encoding.specs.slot_declarations.Frames.{IsFrame};
 ghost use Rattle.slot_encoder.specs.Made as made;
 
@@ -23,7 +22,7 @@ pub(crate) fn encoded_action(
     action: &ActionSchema,
 ) -> Result<SplitAction, Memory>
     requires { IsFrame frame.now }
-    ensures { IfOk result (λ s. whole s ≡ made.source_action frame.now a action.now) }
+    ensures { IfOk result (made.IsSource frame.now a action.now) }
 {
     let predicate = plus(frame.basis.numbers.first_action, a)?;
     let params = action.params.as_slice();
@@ -37,8 +36,7 @@ pub(crate) fn encoded_action(
 pub(crate) fn encoded_check(alloc: Global, frame: &Frame<'_>, j: u32) -> Result<SplitAction, Memory>
     requires frame { IsFrame frame.now }
     requires some { j < length frame.now.basis.now.checks.methods }
-    ensures { IfOk result (λ a.
-        slice_get (made.check_actions frame.now frame.now.compiled.now.methods) j ≡ Some (whole a)) }
+    ensures { IfOk result (made.IsCheck frame.now j) }
 {
     let m = frame.basis.checks.methods.as_slice()[j as usize];
     let check = check_predicate(frame, m)?;

@@ -1,6 +1,6 @@
 -- Three unordered actions on top, with four slots: the list whose new slots are 2 and 3 is a plan of each problem that is printed with
 -- first-free slots, and the list whose new slots are 3 and 2, which spells the same schedule, is none. With any free slots both are plans.
-use Rattle.std.proofs.Common.{ℕ, zero, suc, ◌≡◌, ◌<◌, ◌≤◌, false, List, [], ◌∷◌, map, Some, refl, ap, sym, subst, ◌∙◌, arith}
+use Rattle.std.proofs.Common.{ℕ, zero, suc, ◌≡◌, ◌<◌, ◌≤◌, false, List, [], ◌∷◌, map, Some, refl, subst, arith, lit<}
 use Rattle.std.specs.Prelude.{codes}
 use Rattle.std.specs.List.Sorted.{IsStrictlyIncreasing}
 use Rattle.plan_model.specs.declared.options.Checks.{Checks}
@@ -11,14 +11,14 @@ use Rattle.plan_model.specs.declared.schemas.MethodPlan.{MethodPlan}
 use Rattle.plan_model.specs.declared.steps.GroundAction.{GroundAction}
 use Rattle.plan_model.specs.declared.values.Compiled.{Compiled}
 use Rattle.plan_model.specs.declared.values.Pddl.{Pddl}
-use Rattle.plan_model.specs.task_networks.Tree.{Tree, split, more, done, none, Address, IsAddress, ran, used}
+use Rattle.plan_model.specs.task_networks.Tree.{Tree, split, more, done, none, Address, ran, used}
 use Rattle.plan_model.specs.task_networks.Front.{IsFront}
 use Rattle.plan_model.specs.task_networks.Lawful.{IsLawful}
 use Rattle.plan_model.specs.task_networks.Spelling.{Act, apply, run, Spells}
 use Rattle.plan_model.proofs.task_networks.ScheduleLaws.{prepared_is_lawful}
 use Rattle.plan_model.proofs.task_networks.SpellingTests.{spells_by}
 use Rattle.plan_model.specs.plan_meaning.Truth.{State, IsTrueIn, after}
-use Rattle.plan_model.specs.plan_meaning.ClassicalPlan.{IsPlan, IsExecutable}
+use Rattle.plan_model.specs.plan_meaning.ClassicalPlan.{IsPlan}
 use Rattle.plan_model.specs.plan_meaning.Compilation.{IsCompiled}
 use Rattle.plan_model.specs.plan_meaning.Network.{action, InTypeOf, network, IsGroundMethod}
 use Rattle.plan_model.specs.plan_meaning.Solution.{top_work, initial, IsSolution}
@@ -28,12 +28,13 @@ use Rattle.plan_model.proofs.plan_meaning.examples.PlanKinds.{plain}
 use Rattle.plan_model.proofs.plan_meaning.examples.RowValues.{child, always, nothing, problem, method_schema, method_plan, action_schema, uses}
 use Rattle.plan_model.proofs.plan_meaning.examples.RowWords.{step, slot_1, slot_2, slot_3}
 use Rattle.plan_model.proofs.plan_meaning.examples.RowChecks.{always_true, untested, ground_by, front_by, spelling_by, solution_by}
-use Rattle.schedules.specs.ruled.FirstFreeLaws.{SpellsLowest}
 use Rattle.schedules.specs.ruled.LowestSlots.{AreLowestFree, AreLowest}
 use Rattle.schedules.proofs.ruled.FirstFree.{one_lowest_list}
-use Rattle.slot_encoding.specs.EncodedValue.{IsEncoded}
+use Rattle.slot_encoding.specs.Countable.{IsCountable}
 use Rattle.slot_encoding.specs.Printed.{IsPrintedFirst}
-use Rattle.plan_texts.specs.PrintableValue.{IsPrintable}
+use Rattle.slot_encoding.proofs.first_free.FirstExists.{has_encoded_value-by}
+use Rattle.slot_encoding.proofs.first_free.FirstPrintable.{countable_printable-by}
+use Rattle.plan_model.specs.declared.options.Slots.TheVariants.{First}
 use Rattle.plan_proof.proofs.examples.RowPlans.{IsLawfulRow, plain_formulas, OfEachPrinted, solution_plan}
 use Rattle.plan_proof.proofs.examples.SoundChecks.{sound_by, ordered_by}
 use Rattle.plan_proof.proofs.machine.PrintedMeans.{worded_faithful}
@@ -158,7 +159,17 @@ both_are_plans style p printable encoded = (
   (solution_plan Leaf three 4 (three_row Leaf) high_steps tree order high_slot high solution style p printable encoded).0,
 )
 
--- with first-free slots the first alone
+-- there is such a problem with first-free slots, in each style
+three_is_countable : IsCountable three 4
+three_is_countable = record { top = refl; some_slot = omega arith; few_slots = lit< tt; few_children = (lit< tt, tt); unions = lit< tt }
+
+pub some_printed : (style : Style) → (p : Pddl) × IsPrintedFirst three.hddl Leaf three 4 style p
+some_printed style =
+    let e = has_encoded_value-by First three 4 style in
+    let row = three_row Leaf in
+    (e.value, record { sound = row.sound; compiled = row.compiled; printable = countable_printable-by First three.hddl Leaf three 4 style e.value row.sound row.compiled e.encoded e.words three_is_countable; encoded = e.encoded })
+
+-- of its lists the first alone is a plan
 module _ (style : Style) (p : Pddl) (is : IsPrintedFirst three.hddl Leaf three 4 style p) where
   pub low_is_plan : IsPlan p low_steps
   low_is_plan = ((first_faithful three.hddl Leaf three 4 style p (three_row Leaf).ordered is).plans low_steps).1 (tree, order, low_slot, low_is, solution)

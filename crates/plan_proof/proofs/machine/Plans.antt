@@ -1,5 +1,5 @@
 -- What the printed problem takes spells executable fronts, and its plans spell solutions: over acts.
-use Rattle.std.proofs.Common.{ℕ, ◌≡◌, ◌↔◌, ◌≤◌, List, [], ◌++◌, map, refl, ap, sym, subst, ◌∙◌, Contains}
+use Rattle.std.proofs.Common.{ℕ, ◌≡◌, ◌↔◌, ◌≤◌, List, [], ◌++◌, map, refl, ap, sym, subst, ◌∙◌}
 use Rattle.plan_model.specs.declared.options.Style.{Style}
 use Rattle.plan_model.specs.declared.formulas.Formula.{Formula}
 use Rattle.plan_model.specs.declared.values.Compiled.{Compiled}

@@ -41,7 +41,7 @@ at_below (x ∷ xs) m (suc i) some h = at_below xs m i some h.1
 
 module _ (c : Compiled) (names : List (List ℕ)) (b m : ℕ) (plan : MethodPlan) (low : AreLow plan) where
   -- the number of variables in force, and how many of them are of slots
-  abbrev d : ℕ
+  abbrev pub d : ℕ
   d = depth c names b Adl m plan
 
   abbrev of_slots : ℕ
@@ -80,7 +80,7 @@ module _ (c : Compiled) (names : List (List ℕ)) (b m : ℕ) (plan : MethodPlan
   some : 0 < d
   some = omega arith
 
-  conditions : Become (parts c b d) (method_pre c names b Adl m plan) (method_pre c names b Flat m plan)
+  pub conditions : Become (parts c b d) (method_pre c names b Adl m plan) (method_pre c names b Flat m plan)
   conditions =
       kept (Holds held) (parts-Holds c b d held)
       (both (waits_first c names b d some)
@@ -110,7 +110,7 @@ module _ (c : Compiled) (names : List (List ℕ)) (b m : ℕ) (plan : MethodPlan
       (both (all_kept (λ (p : Pair). E.Add (linked p)) plan.schema.pairs (λ p. changes-Add c b d (linked p)))
       (all_copies plan.copiers)))))
 
-  change : (children : List Child) → Become (changes c b d) (method_eff c names b Adl m plan children) (method_eff c names b Flat m plan children)
+  pub change : (children : List Child) → Become (changes c b d) (method_eff c names b Adl m plan children) (method_eff c names b Flat m plan children)
   change [] = frees_first c names b d some held
   change (child ∷ children) = split
 
@@ -120,7 +120,7 @@ module _ (c : Compiled) (names : List (List ℕ)) (b m : ℕ) (plan : MethodPlan
   abbrev own : List Param
   own = map (source_param names c.hddl.names) plan.schema.params
 
-  in_force : length (slot_param c names b (codes "htn_h") ∷ slots ++ own) ≡ d
+  pub in_force : length (slot_param c names b (codes "htn_h") ∷ slots ++ own) ≡ d
   in_force = omega (arith, length-append slots own, length-map fresh (λ k. slot_param c names b (codes "htn_h" ++ decimal k)), length-numbers 1 (spare c names b Adl m plan), length-map plan.schema.params (source_param names c.hddl.names))
 
   pub method_written : action (slots_of c b) (encoded_method c names b Adl m plan) ≡ encoded_method c names b Flat m plan

@@ -25,6 +25,10 @@ module _ {A : Type 0} {f : A → List A} where
   all_kept g [] h = record { are = refl }
   all_kept g (b ∷ bs) h = kept (g b) (h b) (all_kept g bs h)
 
+  pub all_become : {B : Type 0} (g h : B → A) (bs : List B) → ((b : B) → f (g b) ≡ h b ∷ []) → Become f (map g bs) (map h bs)
+  all_become g h [] e = record { are = refl }
+  all_become g h (b ∷ bs) e = record { are = ap₂ (λ u v. u ++ v) (e b) (all_become g h bs e).are }
+
   pub kept_if : (t : Bool) (x : A) → f x ≡ x ∷ [] → Become f (cond t [] (x ∷ [])) (cond t [] (x ∷ []))
   kept_if true x e = record { are = refl }
   kept_if false x e = alone x (x ∷ []) e

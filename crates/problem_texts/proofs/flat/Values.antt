@@ -34,7 +34,7 @@ all_low h mode (s ∷ ss) [] a = absurd a
 all_low h mode (s ∷ ss) (p ∷ ps) a = (slots_below (Pairs p.schema.pairs) _ p.line p.heir a.0.line a.0.heir, all_low h mode ss ps a.1)
 
 module _ (c : Compiled) (names : List (List ℕ)) (b : ℕ) where
-  abbrev write : List ActionSchema → List ActionSchema
+  abbrev pub write : List ActionSchema → List ActionSchema
   write = map (action (slots_of c b))
 
   methods_written : (m : ℕ) (plans : List MethodPlan) → EachIs AreLow plans → write (encoded_methods c names b Adl m plans) ≡ encoded_methods c names b Flat m plans
@@ -45,11 +45,11 @@ module _ (c : Compiled) (names : List (List ℕ)) (b : ℕ) where
   with_check true x y xs ys e h = ap₂ (λ z zs. z ∷ zs) e h
   with_check false x y xs ys e h = h
 
-  checks_written : (m : ℕ) (plans : List MethodPlan) → write (encoded_checks c names b Adl m plans) ≡ encoded_checks c names b Flat m plans
+  pub checks_written : (m : ℕ) (plans : List MethodPlan) → write (encoded_checks c names b Adl m plans) ≡ encoded_checks c names b Flat m plans
   checks_written m [] = refl
   checks_written m (plan ∷ plans) = with_check plan.checked (encoded_check c names b Adl m plan) (encoded_check c names b Flat m plan) _ _ (check_written c names b m plan) (checks_written (suc m) plans)
 
-  source_written : (a : ℕ) (ss : List ActionSchema) → write (encoded_source c names b Adl a ss) ≡ encoded_source c names b Flat a ss
+  pub source_written : (a : ℕ) (ss : List ActionSchema) → write (encoded_source c names b Adl a ss) ≡ encoded_source c names b Flat a ss
   source_written a [] = refl
   source_written a (s ∷ ss) = ap₂ (λ x xs. x ∷ xs) (action_written c names b a s) (source_written (suc a) ss)
 

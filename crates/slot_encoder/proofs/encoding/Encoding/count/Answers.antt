@@ -19,5 +19,5 @@ pub returns : goal.returns
 returns c =
     let e = c.args.self.now in
     record {
-      count = omega (arith, c.len.ensures.length, c.len-2.ensures.length, c.len-3.ensures.length, ap length c.requires.encoding.basis.checks.methods, actions-length c.args.c.now e.names e.slots e.style);
+      count = omega (arith, c.len.ensures.length, c.len-2.ensures.length, c.len-3.ensures.length, ap length c.requires.encoding.basis.checks.methods, actions-length c.args.c.now e.names e.slots e.style e.rule);
     }
