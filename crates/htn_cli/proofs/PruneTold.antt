@@ -63,7 +63,7 @@ module _ (h : Hddl) (is_numbered : IsNumbered h) (live : Parts) (kept : Kept) (a
   methods_kept : length (pruned kept h).methods ≡ length kept.methods
   methods_kept =
       length-map (only h.methods kept.methods) (renamed_method kept)
-      ∙ only_length h.methods kept.methods (λ n k. (let (c, s, e, r) = (are.methods n).0 k in slice_get_within h.methods n s e))
+      ∙ only_length h.methods kept.methods (λ n k. (let (c, (s, e, r)) = (are.methods n).0 k in slice_get_within h.methods n s e))
 
 module _ (d p : List ℕ) where
   module _ (value : Hddl) (spell : SpellPruned d p value) (od op : List ℕ) (domain_is : hddl_domain_text value ≡ od) (problem_is : hddl_problem_text value ≡ op) where
@@ -97,6 +97,7 @@ module _ (d p : List ℕ) where
           }
 
       each : ArePrunedTexts (length value.tasks) (length value.methods) (length value.actions) od op h
+      unfolding is_too
       each =
           let a = values_pruned_alike d p source h read.spelled s read.sound in
           let own = numbered source read.sound.value in
