@@ -107,11 +107,7 @@ fn kept_of<'a>(alloc: Global, source: &Hddl) -> Result<Hddl, Refusal<'a>>
 }
 
 /// The texts of what is kept, and how much it is.
-fn output_with<'a>(
-    alloc: Global,
-    value: Hddl,
-    names: &Named<'a>,
-) -> Result<Output<'a>, Refusal<'a>>
+fn output_with<'a>(alloc: Global, value: Hddl, names: &Named<'a>) -> Result<Output<'a>, Refusal<'a>>
     requires apart { names.now.od.now ≢ names.now.op.now }
     ensures output { IfOk result (IsMadeOf (names_of names.now) value) }
     ensures differ { IfOk result NamesDiffer }

@@ -90,8 +90,10 @@ const fn unsolved(domain: &'static str, problem: &'static str) -> Row {
     }
 }
 
-const THE_SMALLEST: &[(&str, Option<&str>)] =
-    &[("od.pddl", Some(SMALLEST)), ("op.pddl", Some(SMALLEST_PROBLEM))];
+const THE_SMALLEST: &[(&str, Option<&str>)] = &[
+    ("od.pddl", Some(SMALLEST)),
+    ("op.pddl", Some(SMALLEST_PROBLEM)),
+];
 
 #[test]
 fn what_is_left(rt: HostRuntime) {
@@ -99,9 +101,24 @@ fn what_is_left(rt: HostRuntime) {
         &rt,
         rt.alloc(),
         &[
-            pruned(ENDLESS, PROBLEM, "tasks 1 methods 1 actions 1\n", THE_SMALLEST),
-            pruned(DOMAIN, PROBLEM, "tasks 1 methods 1 actions 1\n", THE_SMALLEST),
-            pruned(SMALLEST, SMALLEST_PROBLEM, "tasks 1 methods 1 actions 1\n", THE_SMALLEST),
+            pruned(
+                ENDLESS,
+                PROBLEM,
+                "tasks 1 methods 1 actions 1\n",
+                THE_SMALLEST,
+            ),
+            pruned(
+                DOMAIN,
+                PROBLEM,
+                "tasks 1 methods 1 actions 1\n",
+                THE_SMALLEST,
+            ),
+            pruned(
+                SMALLEST,
+                SMALLEST_PROBLEM,
+                "tasks 1 methods 1 actions 1\n",
+                THE_SMALLEST,
+            ),
             unsolved(ENDLESS, ENDLESS_PROBLEM),
         ],
     );
@@ -118,7 +135,10 @@ fn what_is_left_of_it(rt: HostRuntime) {
                 UNREACHED,
                 UNREACHED_PROBLEM,
                 "tasks 0 methods 0 actions 1\n",
-                &[("od.pddl", Some(WITHOUT_IT)), ("op.pddl", Some(WITHOUT_IT_PROBLEM))],
+                &[
+                    ("od.pddl", Some(WITHOUT_IT)),
+                    ("op.pddl", Some(WITHOUT_IT_PROBLEM)),
+                ],
             ),
             unsolved(WITHOUT_IT, WITHOUT_IT_PROBLEM),
         ],
