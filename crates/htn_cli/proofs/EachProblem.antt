@@ -22,7 +22,7 @@ use Rattle.plan_proof.specs.OneGraph.{HaveOneGraph}
 use Rattle.plan_proof.proofs.one.OneGraph.{one_graph}
 use Rattle.plan_proof.proofs.values.Headlines.{printed_too, headline_of}
 use Rattle.bound_calc.specs.NoBound.{spaced}
-use Rattle.ground_bound.specs.NoGroundBound.{most_reached, IsAtMost}
+use Rattle.reached_parts.specs.HowMany.{most_reached, IsAtMost}
 use Rattle.ground_answers.specs.GroundLaws.{AreGroundAlike, ValuesHaveOneGroundBound}
 use Rattle.command_words.specs.declared.level.Level.{Level}
 use Rattle.command_words.specs.declared.level.Level.TheVariants.{Lifted, Ground}
