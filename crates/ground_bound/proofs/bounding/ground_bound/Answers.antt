@@ -29,8 +29,8 @@ returns-clause-refused c =
     (refused c.args.c.now c.requires.soundly made.value made.methods.items c.in_ok-made.ensures.problem)
     (subst (λ (ms : List MethodRow). IfErr c.bound_by-number.result (HasNone made.value ms)) c.as_slice.ensures.value c.bound_by-number.ensures.refused)
 
-pub returns-in_err-reached-clause-refused : goal.returns-in_err-reached-clause-refused
-returns-in_err-reached-clause-refused c =
-    let error = c.in_err-reached.field-0.0 in
-    err_is c.from_residual-in_err-reached.result (HasNoGroundBound c.args.c.now) (of_search error) c.from_residual-in_err-reached.ensures.1
-    (given_up c.args.c.now error c.in_err-reached.ensures.refused)
+pub returns-in_err-found-clause-refused : goal.returns-in_err-found-clause-refused
+returns-in_err-found-clause-refused c =
+    let error = c.in_err-found.field-0.0 in
+    err_is c.from_residual.result (HasNoGroundBound c.args.c.now) (of_search error) c.from_residual.ensures.1
+    (given_up c.args.c.now error c.in_err-found.ensures.refused)
