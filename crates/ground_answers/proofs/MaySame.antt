@@ -20,7 +20,7 @@ use Rattle.plan_proof.specs.Same.{AreSameButNames}
 use Rattle.plan_proof.proofs.values.TypeNumbers.{AreApart}
 use Rattle.plan_proof.proofs.values.SameTypes.{in_same, formula-printed, effect-printed}
 use Rattle.decode_answers.proofs.AlikeValues.{AreTwins, SamePlan, SameAction}
-use Rattle.ground_bound.specs.MayBeTrue.{MayBeTrue, MayAdd}
+use Rattle.reached_parts.specs.MayBeTrue.{MayBeTrue, MayAdd}
 use Rattle.ground_answers.proofs.MaySource.{may-source, may_add-source}
 
 -- what the two say alike: both are printed in one way

@@ -12,8 +12,8 @@ use Rattle.plan_model.specs.plan_meaning.Truth.{State, EachTrue, OneTrue, AreTyp
 use Rattle.slot_encoding.specs.SourceParts.{retyped, source_param, formula_layer, source_formula, effect_layer, source_effect}
 use Rattle.slot_encoding.proofs.places.Sums.{value-moved}
 use Rattle.slot_encoding.proofs.places.SourceFormulas.{ground-source, typed-source}
-use Rattle.ground_bound.specs.MayBeTrue.{may_not, may_step, MayBeTrue, may_add_step, MayAdd}
-use Rattle.ground_bound.proofs.MayBe.{may_roll, may_add_roll}
+use Rattle.reached_parts.specs.MayBeTrue.{may_not, may_step, MayBeTrue, may_add_step, MayAdd}
+use Rattle.reached_parts.proofs.MayBe.{may_roll, may_add_roll}
 
 module _ (names source : List (List ℕ)) (InType InType' : ℕ → ℕ → Type 0) (same_type : (o t : ℕ) → InType' o (retyped t) ↔ InType o t) (R : State) where
   abbrev May : Formula → List ℕ → Type 0

@@ -15,8 +15,8 @@ use Rattle.decode_answers.proofs.AlikeValues.{StandTogether, SamePlan, AreTwins,
 use Rattle.decode_answers.proofs.AlikeReaders.{head_same, works_same}
 use Rattle.slot_machine.specs.bound_laws.NetworkEdges.{Edge, IsNamedCycle}
 use Rattle.slot_machine.specs.bound_laws.NetworkBound.{IsBoundOf}
-use Rattle.ground_bound.specs.Reached.{over, IsReachedBy}
-use Rattle.ground_bound.specs.GroundBound.{IsBefore}
+use Rattle.reached_parts.specs.Reached.{over, IsReachedBy}
+use Rattle.reached_parts.specs.MethodOrder.{IsBefore}
 
 -- what is said of ground methods, and the top work
 abbrev About : Type 1

@@ -5,7 +5,7 @@ use Rattle.plan_model.specs.declared.values.Compiled.{Compiled}
 use Rattle.plan_model.specs.plan_meaning.Network.{action, GroundMethod}
 use Rattle.decode_answers.proofs.AlikeValues.{StandTogether, at_some, SamePlan, SameAction, AreTwins, twins_back, plan_place, action_place}
 use Rattle.decode_answers.proofs.AlikeReaders.{head_same, ground_to}
-use Rattle.ground_bound.specs.Reached.{IsReachedBy, AreClosed, AreReached, IsSize}
+use Rattle.reached_parts.specs.Reached.{IsReachedBy, AreClosed, AreReached, IsSize}
 use Rattle.ground_answers.proofs.MaySame.{plan_may, action_may, action_may_add}
 use Rattle.ground_answers.proofs.SameNetwork.{reached_to}
 

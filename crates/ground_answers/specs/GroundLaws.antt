@@ -10,7 +10,7 @@ use Rattle.plan_model.specs.plan_meaning.Network.{GroundMethod}
 use Rattle.plan_texts.specs.FirstSeen.{IsHddlOf}
 use Rattle.plan_texts.specs.SoundProblem.{IsSoundProblem}
 use Rattle.slot_machine.specs.bound_laws.NetworkEdges.{Edge}
-use Rattle.ground_bound.specs.Reached.{AreReached, IsSize}
+use Rattle.reached_parts.specs.Reached.{AreReached, IsSize}
 use Rattle.ground_bound.specs.GroundBound.{IsGroundBound, IsGroundCycle}
 use Rattle.ground_bound.specs.GroundCycleWords.{ground_cycle_words}
 

@@ -19,8 +19,12 @@ use Rattle.bound_calc.specs.stratifier.Conditions.{IsNumbered, IsSmallMethod, Is
 use Rattle.bound_calc.specs.Lines.{HasLine, HaveLines}
 use Rattle.bound_calc.proofs.Ready as Ready
 use Rattle.ground_bound.specs.GroundBound.{IsGroundBound, IsGroundCycle}
-use Rattle.ground_bound.specs.NoGroundBound.{most_reached, edge_of, IsTheCycle, HasNoGroundBound}
-use Rattle.ground_bound.specs.Search.{method_of}
+use Rattle.reached_parts.specs.HowMany.{most_reached}
+use Rattle.ground_bound.specs.NoGroundBound.{edge_of, IsTheCycle, HasNoGroundBound, of_search}
+use Rattle.reached_parts.specs.ReachedOf.{IsGivenUp}
+use Rattle.reached_parts.specs.declared.reach_error.ReachError.{ReachError}
+use Rattle.reached_parts.specs.declared.reach_error.ReachError.TheVariants as search
+use Rattle.reached_parts.specs.Search.{method_of}
 use Rattle.ground_bound.specs.Grounded.{ground_edge, StandsFor, StandsForChild, IsGroundedMethod, IsGroundedRow}
 use Rattle.ground_bound.specs.Bounding.{AreNamed, IsProblemOf, HasBound, HasNone}
 use Rattle.ground_bound.specs.MethodRows.{row}
@@ -31,7 +35,7 @@ use Rattle.ground_bound.specs.declared.ground_error.GroundError.TheVariants.{Too
 use Rattle.ground_bound.proofs.GroundedNetwork.{grounded_bound, grounded_cycle}
 use Rattle.ground_bound.proofs.Places.{zip_at}
 use Rattle.ground_bound.proofs.ReachedRows.{rows_few}
-use Rattle.ground_bound.proofs.Searching.{place}
+use Rattle.reached_parts.proofs.Searching.{place}
 
 -- what is true of each method, at its place
 each_of : {A : Type 0} (P : A → Type 0) (xs : List A) (k : ℕ) (x : A) → ((k : ℕ) (d : A) → k < length xs → P (get_or xs k d)) → slice_get xs k ≡ Some x → P x
@@ -135,3 +139,8 @@ module _ (c : Compiled) (soundly : IsSoundlyCompiled c) (p : Compiled) (methods 
   refused (Cycle named) (edges, is, n) = (made.most, cycle edges named is n)
   refused Past128 (n, h, l) = (made.most, n, bound n h, l)
   refused Memory h = tt
+
+-- a search that is given up is refused for its cause
+pub given_up : (c : Compiled) (error : ReachError) → IsGivenUp c error → HasNoGroundBound c (of_search error)
+given_up c search.TooMany h = h
+given_up c search.Memory h = tt

@@ -21,7 +21,6 @@ use Rattle.plan_model.specs.task_networks.Strata as Walks
 use Rattle.plan_model.specs.plan_meaning.Network.{Work, GroundMethod, IsPrimitive, child_of, top_task}
 use Rattle.plan_model.specs.plan_meaning.Solution.{top_work}
 use Rattle.plan_model.specs.plan_meaning.Schemas.{Schema, action, check, task, schemas, schema_of}
-use Rattle.plan_model.specs.plan_meaning.Schemas as OfSchemas
 use Rattle.plan_model.specs.plan_meaning.Strata as Strata
 use Rattle.plan_model.specs.plan_meaning.Bound.{group_of, IsBound}
 use Rattle.plan_model.proofs.task_networks.Lists.{Contains-here, Contains-later}
@@ -32,23 +31,24 @@ use Rattle.plan_model.proofs.plan_meaning.MethodParts.{head_by, works_by, head_s
 use Rattle.plan_model.proofs.plan_meaning.BoundParts.{AreWhole, there_at}
 use Rattle.plan_model.proofs.plan_meaning.BoundIsOne.{bound_is_one}
 use Rattle.plan_texts.specs.SoundlyCompiled.{IsSoundlyCompiled}
-use Rattle.slot_machine.proofs.bound_laws.Decided.{Or_not}
+use Rattle.slot_machine.proofs.bound_laws.SchemaNetwork.{decided}
 use Rattle.slot_machine.specs.bound_laws.NetworkEdges as Edges
 use Rattle.slot_machine.specs.bound_laws.NetworkEdges.{Edge}
 use Rattle.slot_machine.specs.bound_laws.NetworkBound.{IsBoundOf}
 use Rattle.slot_machine.specs.bound_laws.Finite.{IsFinite}
-use Rattle.ground_bound.specs.Reached.{over}
-use Rattle.ground_bound.specs.GroundBound.{IsBefore, IsGroundBound, IsGroundCycle}
-use Rattle.ground_bound.specs.Search.{method_of, methods_of, task_of, action_of, AreTheReached}
+use Rattle.reached_parts.specs.Reached.{over}
+use Rattle.reached_parts.specs.MethodOrder.{IsBefore}
+use Rattle.ground_bound.specs.GroundBound.{IsGroundBound, IsGroundCycle}
+use Rattle.reached_parts.specs.Search.{method_of, methods_of, task_of, action_of, AreTheReached}
 use Rattle.ground_bound.specs.Grounded.{AreInOrder, method_at, ground_edge, place_of, StandsFor, StandsForChild, IsGroundedMethod, IsGroundedRow, IsGrounded}
 use Rattle.slot_machine.proofs.OtherChildren.{Contains-map}
-use Rattle.ground_bound.proofs.Searching.{place}
+use Rattle.reached_parts.proofs.Searching.{place}
 use Rattle.ground_bound.proofs.Places.{zip_at, map_get, one_place}
 use Rattle.slot_machine.proofs.bound_laws.MappedWalks.{map_cut, same_group, tail_there, named_there}
 use Rattle.ground_bound.proofs.AlikeNetworks.{AreAlike, child_there, child_back, reached_there, same_reached_head, same_last, its_bound}
-use Rattle.slot_machine.proofs.bound_laws.FiniteEdges.{one_list}
+use Rattle.slot_machine.proofs.bound_laws.FiniteEdges.{no_way, one_list}
 use Rattle.slot_machine.proofs.bound_laws.FiniteBound.{at_contains, tail_recursive_has_bound}
-use Rattle.ground_bound.proofs.GroundNetwork.{finite}
+use Rattle.reached_parts.proofs.GroundNetwork.{finite}
 
 different_first : {A : Type 0} (xs ys : List A) → AreDifferent (xs ++ ys) → AreDifferent xs
 different_first [] ys d = tt
@@ -57,11 +57,6 @@ different_first (x ∷ xs) ys d = (λ k. d.0 (Contains-append_left xs ys x k), d
 abbrev work_at : Work → Option Row → Work
 work_at w None = w
 work_at w (Some r) = task_of r
-
-simple_told : (s : Schema) → Or_not (OfSchemas.IsPrimitive s)
-simple_told (action a) = inl tt
-simple_told (check m) = inl tt
-simple_told (task t) = inr (λ e. e)
 
 -- the schema stands for the work
 abbrev Same : List Row → Schema → Work → Type 0
@@ -143,13 +138,6 @@ module _ (c : Compiled) (soundly : IsSoundlyCompiled c) (tasks actions rows sort
           let h = one_place (map task_of tasks) (place_of tasks n) (place_of tasks k) w tasks_different (mapped (place_of tasks n) r w e f) (mapped (place_of tasks k) r' w e' (f' ∙ sym g)) in
           ap task (let a : n ≡ k = omega arith in a)
 
-  head_is_task : (m : ℕ) → M.IsSimple (M.head m) → ⊥
-  head_is_task m s = go (slice_get p.methods m) s
-    where
-      go : (o : Option MethodPlan) → OfSchemas.IsPrimitive (head_schema_by o) → ⊥
-      go None x = x
-      go (Some plan) x = x
-
   alike : AreAlike M N top (top_work c) method (Same tasks)
   alike = record {
     tops = let l = is.count in (omega arith, row_of (top_task c) [], subst (λ k. slice_get tasks k ≡ Some (row_of (top_task c) [])) (let z : 0 ≡ place_of tasks (top_task p) = omega arith in z) first, refl);
@@ -175,8 +163,8 @@ module _ (c : Compiled) (soundly : IsSoundlyCompiled c) (tasks actions rows sort
         );
     simple = same_simple;
     one = one;
-    head_is_task = head_is_task;
-    told = simple_told;
+    head_is_task = (decided p).head_is_task;
+    told = (decided p).simple;
   }
     where
       each : (m : ℕ) (x : Parts m) (i : ℕ) (v : Schema) (w : Work) → slice_get (schemas_by m (Some x.it)) i ≡ Some v → slice_get (works_by (method_of x.row) (Some x.plan)) i ≡ Some w → Same tasks v w
@@ -257,7 +245,7 @@ module _ (c : Compiled) (soundly : IsSoundlyCompiled c) (tasks actions rows sort
     one_task v x w y s t = one v x w y s.1 t.1 s.0 t.0
 
     sources : (e : Strata.Edge) → Contains edges e → SameTask (Strata.source p e) (Edges.source N (edge e))
-    sources e k = (alike.heads e.method ((are.all e).0 k).ground, head_is_task e.method)
+    sources e k = (alike.heads e.method ((are.all e).0 k).ground, (decided p).head_is_task e.method)
 
     targets : (e : Strata.Edge) → Contains edges e → SameTask (Strata.target p e) (Edges.target N (edge e))
     targets e k =
@@ -359,14 +347,9 @@ module _ (c : Compiled) (soundly : IsSoundlyCompiled c) (tasks actions rows sort
         )
 
     apart : (w : Work) (g : GroundMethod) → N.IsGround g → IsReached N (top_work c) (N.head g) → IsReached N (top_work c) w → N.IsSimple w → B.group w ≡ B.group (N.head g) → ⊥
-    apart w g k h r s e = go ((B.groups w (N.head g) r h).0 e)
-      where
-        no_walk : (list walk : List (Edge GroundMethod)) → Walks.IsWalk (Edges.source N) (Edges.target N) list w walk (N.head g) → ⊥
-        no_walk list [] i = F.decided.head_is_task g (subst IsPrimitive i s)
-        no_walk list (d ∷ walk) i = F.decided.head_is_task d.method (subst IsPrimitive (sym i.0) s)
-
-        go : Edges.IsOneGroup N IsBefore (top_work c) w (N.head g) → ⊥
-        go (list, l, o) = no_walk list o.0.0 o.0.1
+    apart w g k h r s e =
+        let (list, l, o) = (B.groups w (N.head g) r h).0 e in
+        F.decided.head_is_task g (subst IsPrimitive (no_way N IsBefore (top_work c) F.decided list w (N.head g) s o.0) s)
 
     bound_is : IsBound p n
     unfolding number group_at block

@@ -13,17 +13,17 @@ use Rattle.plan_model.proofs.plan_meaning.MethodParts.{head_by, works_by}
 use Rattle.plan_model.proofs.plan_meaning.Pairs.{map_to}
 use Rattle.plan_texts.specs.SoundlyCompiled.{IsSoundlyCompiled}
 use Rattle.slot_machine.proofs.bound_laws.Decided.{Or_not}
-use Rattle.ground_bound.specs.Reached.{over, IsReachedBy, AreClosed, IsSize}
-use Rattle.ground_bound.specs.GroundBound.{IsBefore}
-use Rattle.ground_bound.specs.NoGroundBound.{IsAtMost}
-use Rattle.ground_bound.specs.Search.{method_of, methods_of, task_of, action_of, works_of, AreTheReached}
+use Rattle.reached_parts.specs.Reached.{over, IsReachedBy, AreClosed, IsSize}
+use Rattle.reached_parts.specs.MethodOrder.{IsBefore}
+use Rattle.reached_parts.specs.HowMany.{IsAtMost}
+use Rattle.reached_parts.specs.Search.{method_of, methods_of, task_of, action_of, works_of, AreTheReached}
 use Rattle.ground_bound.specs.Grounded.{IsListedTask, HaveListedTasks}
 use Rattle.slot_machine.proofs.OtherChildren.{Contains-map}
 use Rattle.slot_machine.proofs.bound_laws.FiniteEdges.{keep, keep_to, to_keep, reached_or_not}
-use Rattle.ground_bound.proofs.GroundNetwork.{decided}
-use Rattle.ground_bound.proofs.LeastLists.{reached_exactly}
-use Rattle.ground_bound.proofs.SameMethods.{reached_among}
-use Rattle.ground_bound.proofs.Searching.{place, task_apart}
+use Rattle.reached_parts.proofs.GroundNetwork.{decided}
+use Rattle.reached_parts.proofs.LeastLists.{reached_exactly}
+use Rattle.reached_parts.proofs.SameMethods.{reached_among}
+use Rattle.reached_parts.proofs.Searching.{place, task_apart}
 
 module _ (c : Compiled) (soundly : IsSoundlyCompiled c) (tasks actions rows : List Row) (the : AreTheReached c tasks actions rows) where
   abbrev methods : List GroundMethod

@@ -18,15 +18,15 @@ use Rattle.plan_model.proofs.plan_meaning.BoundParts.{there_at}
 use Rattle.plan_model.proofs.plan_meaning.Pairs.{map_to}
 use Rattle.plan_texts.specs.SoundlyCompiled.{IsSoundlyCompiled}
 use Rattle.slot_machine.specs.bound_laws.Finite.{IsDecided}
-use Rattle.ground_bound.specs.Reached.{over}
-use Rattle.ground_bound.specs.GroundBound.{AreBefore, IsBefore}
-use Rattle.ground_bound.specs.Search.{method_of, methods_of}
+use Rattle.reached_parts.specs.Reached.{over}
+use Rattle.reached_parts.specs.MethodOrder.{AreBefore, IsBefore}
+use Rattle.reached_parts.specs.Search.{method_of, methods_of}
 use Rattle.ground_bound.specs.Grounded.{AreInOrder}
 use Rattle.ground_bound.specs.declared.in_order.MethodRow.{MethodRow}
 use Rattle.ground_bound.specs.MethodRows.{row}
 use Rattle.slot_machine.proofs.OtherChildren.{Contains-map}
 use Rattle.slot_machine.proofs.bound_laws.FiniteBound.{at_contains}
-use Rattle.ground_bound.proofs.GroundNetwork.{decided}
+use Rattle.reached_parts.proofs.GroundNetwork.{decided}
 use Rattle.ground_bound.proofs.Places.{map_get}
 
 abbrev compared : MethodRow → MethodRow → Ordering

@@ -9,8 +9,9 @@ use Rattle.plan_model.specs.plan_meaning.Bound.{IsBound}
 use Rattle.bound_calc.specs.declared.stratifier.edge.Edge as Declared
 use Rattle.bound_calc.specs.stratifier.Listed as Listed
 use Rattle.bound_calc.specs.stratifier.NamedCycle.{IsNamed}
-use Rattle.ground_bound.specs.NoGroundBound.{most_reached, edge_of, IsAtMost}
-use Rattle.ground_bound.specs.Search.{AreTheReached}
+use Rattle.reached_parts.specs.HowMany.{most_reached, IsAtMost}
+use Rattle.ground_bound.specs.NoGroundBound.{edge_of}
+use Rattle.reached_parts.specs.Search.{AreTheReached}
 use Rattle.ground_bound.specs.Grounded.{AreInOrder, ground_edge, IsGrounded}
 use Rattle.ground_bound.specs.MethodRows.{row}
 use Rattle.ground_bound.specs.declared.in_order.MethodRow.{MethodRow}

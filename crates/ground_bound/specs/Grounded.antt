@@ -12,8 +12,8 @@ use Rattle.plan_model.specs.declared.values.Compiled.{Compiled}
 use Rattle.plan_model.specs.plan_meaning.Network.{Work, action, check, task, IsPrimitive, GroundMethod, child_of, decomposed, top_task}
 use Rattle.plan_model.specs.plan_meaning.Strata as Strata
 use Rattle.slot_machine.specs.bound_laws.NetworkEdges.{Edge}
-use Rattle.ground_bound.specs.GroundBound.{IsBefore}
-use Rattle.ground_bound.specs.Search.{method_of, task_of}
+use Rattle.reached_parts.specs.MethodOrder.{IsBefore}
+use Rattle.reached_parts.specs.Search.{method_of, task_of}
 
 -- the same rows, by the method's place, then its objects by number
 pub record AreInOrder (methods sorted : List Row) : Type 0 where

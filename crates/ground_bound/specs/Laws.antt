@@ -13,9 +13,9 @@ use Rattle.plan_model.specs.task_networks.Bound.{AreLargeEnough}
 use Rattle.plan_model.specs.plan_meaning.Network.{check, GroundMethod, network, Work, action, InTypeOf, IsGroundMethod}
 use Rattle.plan_model.specs.plan_meaning.Truth.{State}
 use Rattle.plan_model.specs.plan_meaning.Solution.{Allows, next, initial, IsExecutableFront, IsSolution}
-use Rattle.ground_bound.specs.Restricted.{restricted, UsesOnly}
-use Rattle.ground_bound.specs.Reached.{IsNoCheck, IsReachedBy, AreClosed, AreReached, AreForced, IsSize}
-use Rattle.ground_bound.specs.MayBeTrue.{MayBeTrue, MayAdd}
+use Rattle.reached_parts.specs.Restricted.{restricted, UsesOnly}
+use Rattle.reached_parts.specs.Reached.{IsNoCheck, IsReachedBy, AreClosed, AreReached, AreForced, IsSize}
+use Rattle.reached_parts.specs.MayBeTrue.{MayBeTrue, MayAdd}
 use Rattle.slot_machine.specs.bound_laws.NetworkEdges.{Edge, IsTailRecursive, IsNamedCycle, IsRanking}
 use Rattle.slot_machine.specs.bound_laws.NetworkBound.{IsBoundOf}
 use Rattle.slot_machine.specs.bound_laws.Finite.{IsFinite}
@@ -66,32 +66,6 @@ module _ (c : Compiled) where
   abbrev pub SolutionsAreWithin : Type 0
   SolutionsAreWithin = (n : ℕ) → IsGroundBound c n → (tree : Tree (network c)) (order : List Address) → IsSolution c tree order
       → IsWithin (network c) n tree order
-
-  -- there are least lists, and exactly one number of what is reached
-  abbrev pub ReachedExactly : Type 0
-  ReachedExactly = ((methods : List GroundMethod) × (atoms : List GroundAtom) × AreReached c methods atoms)
-      × ((n : ℕ) × IsSize c n × ((other : ℕ) → IsSize c other → other ≡ n))
-
-  -- what a step from forced lists reaches is in all closed lists
-  abbrev pub StepsAreForced : Type 0
-  StepsAreForced = (methods : List GroundMethod) (atoms : List GroundAtom) → AreForced c methods atoms
-      → (others : List GroundMethod) (facts : List GroundAtom) → AreClosed c others facts
-      → ((g : GroundMethod) (is : IsGroundMethod c g) → IsReachedBy c methods ((network c).head g)
-      → MayBeTrue (InTypeOf c) (Contains atoms) is.plan.schema.pre g.values → Contains others g)
-      × ((n : ℕ) (args : List ℕ) (s : ActionSchema) → slice_get c.hddl.actions n ≡ Some s → IsReachedBy c methods (action n args)
-      → MayBeTrue (InTypeOf c) (Contains atoms) s.pre args
-      → (a : GroundAtom) → MayAdd (InTypeOf c) (Contains atoms) s.eff args a → Contains facts a)
-
-  -- forced lists that are closed are the least
-  abbrev pub ForcedAndClosedAreReached : Type 0
-  ForcedAndClosedAreReached = (methods : List GroundMethod) (atoms : List GroundAtom) → AreForced c methods atoms
-      → AreClosed c methods atoms → AreReached c methods atoms
-
-  -- forced lists have no more than is reached
-  abbrev pub ForcedAreWithinSize : Type 0
-  ForcedAreWithinSize = (methods : List GroundMethod) (atoms : List GroundAtom) → AreForced c methods atoms → AreDifferent methods
-      → (works : List Work) → AreDifferent works → ((w : Work) → Contains works w → IsReachedBy c methods w × IsNoCheck w) → (n : ℕ)
-      → IsSize c n → length works + length methods ≤ n
 
   -- what is reached is tail-recursive, or has the bad cycle that is named
   abbrev pub GroundTailRecursiveOrCycle : Type 0

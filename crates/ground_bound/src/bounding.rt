@@ -3,8 +3,9 @@ ghost use Rattle.plan_texts.specs.SoundlyCompiled.{IsSoundlyCompiled};
 ghost use Rattle.bound_calc.specs.stratifier.Conditions.{HaveNoCycle, IsSmallCompiled};
 ghost use Rattle.bound_calc.specs.Lines.{HaveLines};
 ghost use Rattle.ground_bound.specs.GroundBound.{IsGroundBound};
-ghost use Rattle.ground_bound.specs.NoGroundBound.{most_reached, IsAtMost, HasNoGroundBound};
-ghost use Rattle.ground_bound.specs.ReachedOf.{IsReachedOf};
+ghost use Rattle.reached_parts.specs.HowMany.{most_reached, IsAtMost};
+ghost use Rattle.ground_bound.specs.NoGroundBound.{HasNoGroundBound};
+ghost use Rattle.reached_parts.specs.ReachedOf.{IsReachedOf};
 ghost use Rattle.bound_calc.specs.stratifier.Listed as listed;
 ghost use Rattle.ground_bound.specs.NoGroundBound as refusals;
 ghost use Rattle.ground_bound.specs.Grounded as named;
@@ -14,12 +15,11 @@ ghost use Rattle.ground_bound.specs.Bounding as spec;
 use crate::ground_error::{GroundEdge, GroundError};
 use crate::grounded::grounded;
 use crate::in_order::{MethodRow, in_order};
-use crate::reached::Reached;
-use crate::search::reached;
 use bound_calc::stratifier::{Edge, StratError, stratify};
 use bound_calc::{BoundError, bound};
 use htn_base::{List, Memory};
 use plan_model::Compiled;
+use reached_parts::{Reached, reached};
 use std::alloc::Global;
 
 /// The bound over what is reached: the bound of the problem that has a task for each reached ground task and a method for each reached

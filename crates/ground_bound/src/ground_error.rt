@@ -1,4 +1,5 @@
 use htn_base::List;
+use reached_parts::ReachError;
 
 /// A ground method, by its place in the compiled list and with an object for each parameter, and the number of one of its children.
 pub struct GroundEdge {
@@ -38,5 +39,19 @@ impl From<htn_base::Memory> for GroundError {
 
     fn from(_error: htn_base::Memory) -> GroundError {
         GroundError::Memory
+    }
+}
+
+impl From<ReachError> for GroundError {
+    ghost use Rattle.std.specs.Prelude.{◌≡◌};
+    ghost use Rattle.ground_bound.specs.NoGroundBound.{of_search};
+
+    ghost from_gives = { λ given error. error ≡ of_search given };
+
+    fn from(error: ReachError) -> GroundError {
+        match error {
+            ReachError::TooMany => GroundError::TooMany,
+            ReachError::Memory => GroundError::Memory,
+        }
     }
 }

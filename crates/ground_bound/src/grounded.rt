@@ -10,12 +10,12 @@ ghost use Rattle.ground_bound.specs.Grounded as spec;
 ghost use Rattle.ground_bound.specs.MethodRows.{row, ground};
 
 use crate::in_order::MethodRow;
-use crate::row_set::RowSet;
 use htn_base::{List, Memory, Name, WordList};
 use plan_model::{
     Child, Compiled, Facts, Formula, Hddl, Head, MethodPlan, MethodSchema, Pair, TaskSchema, Term,
     Types,
 };
+use reached_parts::RowSet;
 use std::alloc::Global;
 
 /// The problem without parameters that these tasks and these methods make. Actions and checks are both checks there, and what

@@ -2,12 +2,12 @@ ghost use Rattle.std.specs.Prelude.{List, map, IfOk};
 ghost use Rattle.htn_base.specs.Packed.{Row};
 ghost use Rattle.plan_model.specs.declared.values.Compiled.{Compiled};
 ghost use Rattle.plan_texts.specs.SoundlyCompiled.{IsSoundlyCompiled};
-ghost use Rattle.ground_bound.specs.Search.{AreTheReached};
+ghost use Rattle.reached_parts.specs.Search.{AreTheReached};
 ghost use Rattle.ground_bound.specs.Grounded.{AreInOrder};
 ghost use Rattle.ground_bound.specs.MethodRows.{row};
 
-use crate::row_set::RowSet;
 use htn_base::Memory;
+use reached_parts::RowSet;
 use std::alloc::Global;
 
 /// A ground method: its place in the compiled list, and an object for each parameter. It compares by the place, and then by the

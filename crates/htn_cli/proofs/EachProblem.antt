@@ -25,7 +25,7 @@ use Rattle.plan_proof.proofs.values.Headlines.{headline_of}
 use Rattle.first_slots.specs.LowestSpelling.{SpellingBy}
 use Rattle.first_slots.proofs.Headlines.{printed_by-rule, headline_by-rule}
 use Rattle.bound_calc.specs.NoBound.{spaced}
-use Rattle.ground_bound.specs.NoGroundBound.{most_reached, IsAtMost}
+use Rattle.reached_parts.specs.HowMany.{most_reached, IsAtMost}
 use Rattle.ground_answers.specs.GroundLaws.{AreGroundAlike, ValuesHaveOneGroundBound}
 use Rattle.command_words.specs.declared.level.Level.{Level}
 use Rattle.command_words.specs.declared.level.Level.TheVariants.{Lifted, Ground}

@@ -18,10 +18,10 @@ use Rattle.first_slots.proofs.Texts.{one_pair}
 use Rattle.bound_calc.specs.stratifier.NamedCycle.{IsNamed}
 use Rattle.bound_calc.specs.stratifier.CycleWords.{cycle_words}
 use Rattle.bound_calc.specs.NoBound.{NamesCycle, spaced}
-use Rattle.ground_bound.specs.Reached.{IsSize}
-use Rattle.ground_bound.specs.NoGroundBound.{most_reached, IsAtMost, IsMoreThan}
+use Rattle.reached_parts.specs.Reached.{IsSize}
+use Rattle.reached_parts.specs.HowMany.{most_reached, IsAtMost, IsMoreThan}
 use Rattle.ground_bound.specs.GroundCycleWords.{ground_cycle_words}
-use Rattle.ground_bound.proofs.LeastLists.{reached_exactly}
+use Rattle.reached_parts.proofs.LeastLists.{reached_exactly}
 use Rattle.ground_bound.proofs.GroundBounds.{bounded_is_tail, tail_has_one_bound, tail_no_cycle, one_cycle as one_cycle_of}
 use Rattle.ground_answers.specs.GroundLaws.{AreGroundAlike, ValuesHaveOneGroundBound}
 use Rattle.command_words.specs.declared.level.Level.{Level}

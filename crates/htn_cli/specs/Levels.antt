@@ -7,7 +7,7 @@ use Rattle.plan_model.specs.plan_meaning.Network.{GroundMethod}
 use Rattle.bound_calc.specs.NoBound.{NamesCycle, spaced}
 use Rattle.slot_machine.specs.bound_laws.NetworkEdges.{Edge}
 use Rattle.ground_bound.specs.GroundBound.{IsGroundBound, IsGroundCycle}
-use Rattle.ground_bound.specs.NoGroundBound.{most_reached, IsAtMost, IsMoreThan}
+use Rattle.reached_parts.specs.HowMany.{most_reached, IsAtMost, IsMoreThan}
 use Rattle.ground_bound.specs.GroundCycleWords.{ground_cycle_words}
 use Rattle.command_words.specs.declared.level.Level.{Level}
 use Rattle.command_words.specs.declared.level.Level.TheVariants.{Lifted, Ground}

@@ -121,7 +121,7 @@ impl Pages<'_> {
 
     /// How it is asked, behind so many variables, that new slots are the lowest free ones.
     fn lowest_with(&self, variables: usize) -> Result<Option<Lowest>, Memory>
-        ensures { IfOk result (λ lowest. lowest ≡ lowest_with self.lower variables) }
+        ensures { IfOk result (λ lowest. lowest ≡ lowest_with self.now.lower variables) }
     {
         let x = number(variables)?;
         match self.lower {

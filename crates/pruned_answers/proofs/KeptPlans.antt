@@ -24,6 +24,7 @@ use Rattle.live_parts.proofs.PrunedSound.{sound_is_numbered}
 use Rattle.hddl_texts.specs.PrintedHddl.{hddl_domain_text, hddl_problem_text}
 use Rattle.hddl_texts.specs.Ids.{with_ids}
 use Rattle.hddl_texts.proofs.PrintedIds.{still-ordered}
+use Rattle.plan_model.specs.plan_meaning.SpelledPlan.{IsSpelling}
 use Rattle.plan_proof.specs.Headline.{SpellsSolution}
 use Rattle.plan_proof.specs.OneText.{HasOneCompiled}
 use Rattle.plan_proof.specs.TextPlans.{IsPlanOf}
@@ -51,7 +52,7 @@ back f = (f.1, f.0)
 -- the plans of what is printed are the spelled solutions
 printed_plans : (domain problem : List ℕ) (checks : Checks) (b : ℕ) (style : Style) (p : Pddl) (t : IsPrintedOf domain problem checks b style p) → AreOrdered t.read
     → (steps : List GroundAction) → IsPlanOf (domain_text p) (problem_text p) steps ↔ SpellsSolution t.compiled b steps
-printed_plans domain problem checks b style p t ordered = (faithful_texts t.compiled b p t.is.printable (printed_faithful t.read checks t.compiled b style p ordered t.is)).plans
+printed_plans domain problem checks b style p t ordered = (faithful_texts IsSpelling t.compiled b p t.is.printable (printed_faithful t.read checks t.compiled b style p ordered t.is)).plans
 
 module _ (domain problem : List ℕ) (h : Hddl) (spelled_here : IsHddlOf domain problem h) (sound : IsSoundProblem h) (ordered : AreOrdered h) where
   -- each value of the texts has no cycle

@@ -19,7 +19,7 @@ use Rattle.plan_texts.specs.Types.{EachIs}
 use Rattle.slot_encoding.specs.EncodedNames.{slot_param}
 use Rattle.slot_encoding.specs.EncodedActions.{spare}
 use Rattle.slot_encoding.specs.EncodedValue.{encoded_checks, encoded_source}
-use Rattle.slot_encoding.specs.FirstFree.{less, less_facts, is_free_below, lowest_slot, lowest_slots, first_method, first_methods, first_actions, IsFirstEncoded, IsEncodedBy}
+use Rattle.slot_encoding.specs.FirstFree.{less, less_facts, is_free_below, lowest_slot, lowest_slots, first_method, first_methods, first_actions, IsEncodedBy}
 use Rattle.pddl_printer.specs.WrittenOut.{literal, negated_literal, quantified, action, written_out}
 use Rattle.pddl_printer.proofs.written_out.Equations.{out-Not, out-And, out-Imply, parts-Forall}
 use Rattle.problem_texts.specs.Slots.{slots_of}

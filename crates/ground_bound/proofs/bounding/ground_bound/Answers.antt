@@ -1,10 +1,11 @@
 use Rattle.std.proofs.Common.{List, subst}
 use Rattle.std.specs.Prelude.{IfErr}
 use Rattle.ground_bound.specs.GroundBound.{IsGroundBound}
-use Rattle.ground_bound.specs.NoGroundBound.{HasNoGroundBound}
+use Rattle.ground_bound.specs.NoGroundBound.{HasNoGroundBound, of_search}
 use Rattle.ground_bound.specs.Bounding.{HasBound, HasNone}
 use Rattle.ground_bound.specs.declared.in_order.MethodRow.{MethodRow}
-use Rattle.ground_bound.proofs.Bounded.{small, ordered, lines, bound, refused}
+use Rattle.reached_parts.proofs.UsingLaws.{err_is}
+use Rattle.ground_bound.proofs.Bounded.{small, ordered, lines, bound, refused, given_up}
 use Rattle.ground_bound.proofs.Places.{if_ok_then, if_err_then}
 use Rattle.ground_bound.proofs.bounding.ground_bound.Goals as goal
 
@@ -27,3 +28,9 @@ returns-clause-refused c =
     if_err_then c.bound_by-number.result (HasNone made.value made.methods.items) (HasNoGroundBound c.args.c.now)
     (refused c.args.c.now c.requires.soundly made.value made.methods.items c.in_ok-made.ensures.problem)
     (subst (λ (ms : List MethodRow). IfErr c.bound_by-number.result (HasNone made.value ms)) c.as_slice.ensures.value c.bound_by-number.ensures.refused)
+
+pub returns-in_err-found-clause-refused : goal.returns-in_err-found-clause-refused
+returns-in_err-found-clause-refused c =
+    let error = c.in_err-found.field-0.0 in
+    err_is c.from_residual.result (HasNoGroundBound c.args.c.now) (of_search error) c.from_residual.ensures.1
+    (given_up c.args.c.now error c.in_err-found.ensures.refused)

@@ -1,5 +1,5 @@
 use Rattle.std.proofs.Common.{◌+◌, ◌≤◌, List, map, length, ap, sym, subst, Contains, arith}
-use Rattle.ground_bound.specs.NoGroundBound.{most_reached}
+use Rattle.reached_parts.specs.HowMany.{most_reached}
 use Rattle.ground_bound.specs.Grounded.{HaveListedTasks, IsGrounded}
 use Rattle.ground_bound.specs.MethodRows.{row}
 use Rattle.ground_bound.specs.declared.in_order.MethodRow.{MethodRow}

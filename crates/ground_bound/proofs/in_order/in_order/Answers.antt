@@ -2,8 +2,8 @@ use Rattle.std.proofs.Common.{◌≡◌, ◌<◌, ◌≤◌, Bor, Some, None, sl
 use Rattle.std.specs.Option.{option_map}
 use Rattle.htn_base.specs.Packed.{row_of}
 use Rattle.plan_model.proofs.plan_meaning.BoundParts.{there_at}
-use Rattle.ground_bound.specs.Rows as Rows
-use Rattle.ground_bound.specs.declared.row_set.Numbered.{Numbered}
+use Rattle.reached_parts.specs.Rows as Rows
+use Rattle.reached_parts.specs.declared.row_set.Numbered.{Numbered}
 use Rattle.ground_bound.proofs.ReachedRows.{are_ground}
 use Rattle.ground_bound.proofs.RowsInOrder.{sorted_in_order, different_rows, copied_next}
 use Rattle.ground_bound.proofs.in_order.in_order.Goals as goal

@@ -1,0 +1,17 @@
+pub mod MayBeTrue
+pub mod Needed
+pub mod Restricted
+pub mod Reached
+pub mod MethodOrder
+pub mod HowMany
+pub mod Laws
+pub mod Relaxed
+pub mod Rows
+pub mod Atoms
+pub mod Joins
+pub mod Demands
+pub mod Search
+pub mod SearchLaws
+pub mod Found
+pub mod ReachedOf
+pub mod Using
