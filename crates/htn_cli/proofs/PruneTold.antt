@@ -1,5 +1,5 @@
 -- What was pruned: what is true of one value of the texts is true of each.
-use Rattle.std.proofs.Common.{ℕ, ◌≡◌, ◌<◌, List, length, Some, slice_get, map, Contains, refl, sym, ap, ◌∙◌, subst}
+use Rattle.std.proofs.Common.{ℕ, ◌≡◌, List, length, refl, sym, ap, ◌∙◌, subst}
 use Rattle.std.proofs.lemmas.List.{length-map}
 use Rattle.std.proofs.lemmas.Option.{slice_get_within}
 use Rattle.outside_io.specs.Sink.{SinkState}
