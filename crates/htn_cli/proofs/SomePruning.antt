@@ -13,7 +13,7 @@ use Rattle.hddl_prune.specs.Pruning.{IsPruned, CannotBeSolved}
 use Rattle.hddl_texts.specs.PrintedHddl.{hddl_domain_text, hddl_problem_text}
 use Rattle.pruned_answers.proofs.OneOutcome.{pruned_somehow}
 use Rattle.command_words.specs.Words.{PruneRequest, to_prune}
-use Rattle.htn_cli.specs.Pruning.{pruned_output, SpellPruned}
+use Rattle.htn_cli.specs.Pruning.{pruned_output, SpellPruned, GivesPrune}
 use Rattle.htn_cli.specs.Texts.{IsFirstTooLong}
 use Rattle.htn_cli.specs.declared.refusal.Finding.TheVariants as finding
 use Rattle.htn_cli.specs.declared.refusal.Limit.TheVariants as limit
@@ -36,7 +36,7 @@ module _ (value : FaultlessHddlHasAValue) (r : PruneRequest) (d p : List ℕ) (d
     by_lengths (inr fits) (inl past) = long (capped (length (hddl_problem_text kept))) (inr (fits, past, refl))
     by_lengths (inr fits) (inr also) =
         let output = pruned_output r.names kept in
-        let is = (kept, spell, record { domain_fits = fits; problem_fits = also }, refl) in
+        let is : GivesPrune r d p output = (kept, spell, record { domain_fits = fits; problem_fits = also }, refl) in
         given_output output is (prune_fits r d p output is)
 
     written : Has

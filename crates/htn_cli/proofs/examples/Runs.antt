@@ -1,4 +1,5 @@
-use Rattle.std.proofs.Common.{◌≡◌, codes, refl}
+use Rattle.std.proofs.Common.{◌≡◌, ◌++◌, codes, refl, ap, lit<}
+use Rattle.std.proofs.lemmas.Fmt.{decimal-digits_of}
 use Rattle.htn_cli.specs.Lines.{kept_line}
 use Rattle.htn_cli.specs.Refusal.{line_of}
 use Rattle.htn_cli.specs.declared.refusal.Failure.TheVariants as failure
@@ -16,4 +17,4 @@ no_solution : line_of (refused.Finding finding.NoSolution) ≡ codes "no solutio
 no_solution = refl
 
 smallest_is_kept : kept_line 1 1 1 ≡ codes "tasks 1 methods 1 actions 1\n"
-smallest_is_kept = refl
+smallest_is_kept = ap (λ z. codes "tasks " ++ z ++ codes " methods " ++ z ++ codes " actions " ++ z ++ codes "\n") (decimal-digits_of 1 (lit< tt) (lit< tt))
