@@ -95,6 +95,16 @@ const THE_SMALLEST: &[(&str, Option<&str>)] = &[
     ("op.pddl", Some(SMALLEST_PROBLEM)),
 ];
 
+const LEFT: &[(&str, Option<&str>)] = &[
+    ("od.pddl", Some(WITHOUT_IT)),
+    ("op.pddl", Some(WITHOUT_IT_PROBLEM)),
+];
+
+const TRANSLATED: &[(&str, Option<&str>)] = &[
+    ("od.pddl", Some(ONE_SLOT_DOMAIN)),
+    ("op.pddl", Some(ONE_SLOT_PROBLEM)),
+];
+
 #[test]
 fn what_is_left(rt: HostRuntime) {
     replay_all(
@@ -135,10 +145,7 @@ fn what_is_left_of_it(rt: HostRuntime) {
                 UNREACHED,
                 UNREACHED_PROBLEM,
                 "tasks 0 methods 0 actions 1\n",
-                &[
-                    ("od.pddl", Some(WITHOUT_IT)),
-                    ("op.pddl", Some(WITHOUT_IT_PROBLEM)),
-                ],
+                LEFT,
             ),
             unsolved(WITHOUT_IT, WITHOUT_IT_PROBLEM),
         ],
@@ -159,10 +166,7 @@ fn what_is_left_is_translated(rt: HostRuntime) {
             status: Status::Done,
             out: "slots 1\n",
             err: "",
-            held: &[
-                ("od.pddl", Some(ONE_SLOT_DOMAIN)),
-                ("op.pddl", Some(ONE_SLOT_PROBLEM)),
-            ],
+            held: TRANSLATED,
         }],
     );
 }
