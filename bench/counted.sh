@@ -8,7 +8,7 @@
 # are asked for). Wants ./htn, as examples/transport/run leaves it, and valgrind. A line each: the instructions.
 #
 # Counted, in the order of the cases, millions: 19.7, 97.7, 754.8, 407.6, 303.0, 285.5, 215.4, `decode` 314.4, 24.5, `encode` 389.5, 34.9, and
-# `make 200` 31.6 (37.8 before trees were joined without a map); `decode` and `encode` were counted before that too. Before steps were put on the sheet straight from slots and words `encode` took 470.6, 41.1.
+# `make 200` 31.6 (37.8 before trees were joined without a map), `translate` of its problem with 1,024 first-free slots 130.2; `decode` and `encode` were counted before that too. Before steps were put on the sheet straight from slots and words `encode` took 470.6, 41.1.
 set -euo pipefail
 top=$(cd "$(dirname "$0")/.." && pwd)
 work=$(mktemp -d)
