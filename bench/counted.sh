@@ -7,8 +7,10 @@
 # 10 vehicles and 30 places on a ring; and `prune` of 2,000 tasks with four methods each, half of which are kept (at most 160 million
 # are asked for). Wants ./htn, as examples/transport/run leaves it, and valgrind. A line each: the instructions.
 #
-# Counted, in the order of the cases, millions: 19.7, 97.7, 754.8, 407.6, 303.0, 285.5, 215.4, `decode` 314.4, 24.5, `encode` 389.5, 34.9, and
-# `make 200` 31.6 (37.8 before trees were joined without a map), `translate` of its problem with 1,024 first-free slots 130.2; `decode` and `encode` were counted before that too. Before steps were put on the sheet straight from slots and words `encode` took 470.6, 41.1.
+# Counted, in the order of the cases, millions: 19.7, 97.7, 754.8, 407.6, 303.0, 285.5, 215.4, `decode` 314.4, 24.5, `encode` 389.5, 34.9
+# (470.6 and 41.1 before steps were put on the sheet straight from slots and words), `make 200` 31.2 (37.8 before trees were joined
+# without a map), `translate` of its problem with 1,024 first-free slots 130.2, and `prune` 127.8; `decode` and `encode` were counted
+# before some of that too.
 set -euo pipefail
 top=$(cd "$(dirname "$0")/.." && pwd)
 work=$(mktemp -d)
