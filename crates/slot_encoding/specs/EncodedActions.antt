@@ -1,59 +1,26 @@
 -- The actions of the printed problem: of the methods, the checks and the source actions.
 -- A slot holds what is pending in it; a method puts its children into slots, an action and a check free their slot.
 -- Source: this project's encoding, after Alford et al., "Bound to Plan", ICAPS 2016.
-use Rattle.std.specs.Prelude.{ℕ, zero, suc, ◌+◌, ◌-◌, Bool, true, false, cond, List, [], ◌∷◌, ◌++◌, map, length, slice_index, Option, codes, decimal}
+use Rattle.std.specs.Prelude.{ℕ, zero, suc, ◌+◌, ◌-◌, cond, List, [], ◌∷◌, ◌++◌, map, length, slice_index, Option, codes, decimal}
 use Rattle.plan_model.specs.declared.options.Style.{Style}
 use Rattle.plan_model.specs.declared.terms.Term.{Term}
 use Rattle.plan_model.specs.declared.terms.Term.TheVariants.{Var}
 use Rattle.plan_model.specs.declared.terms.Atom.{Atom}
 use Rattle.plan_model.specs.declared.terms.Param.{Param}
-use Rattle.plan_model.specs.declared.networks.Head.{Head}
-use Rattle.plan_model.specs.declared.networks.Head.TheVariants.{Task, Action, Check}
 use Rattle.plan_model.specs.declared.networks.Child.{Child}
 use Rattle.plan_model.specs.declared.networks.Pair.{Pair}
-use Rattle.plan_model.specs.declared.networks.Constraint.{Constraint}
-use Rattle.plan_model.specs.declared.networks.Guard.{Guard}
 use Rattle.plan_model.specs.declared.formulas.Formula.{Formula}
 use Rattle.plan_model.specs.declared.formulas.Formula.TheVariants.{Holds, Equal, Not, And}
-use Rattle.plan_model.specs.declared.formulas.Formula.TheFolds.{fold-Formula}
-use Rattle.plan_model.specs.declared.formulas.Formula.TheOpen.{Formula-F}
 use Rattle.plan_model.specs.declared.effects.Effect.{Effect}
 use Rattle.plan_model.specs.declared.effects.Effect.TheVariants as E
-use Rattle.plan_model.specs.declared.effects.Effect.TheFolds.{fold-Effect}
-use Rattle.plan_model.specs.declared.effects.Effect.TheOpen.{Effect-F}
 use Rattle.plan_model.specs.declared.schemas.ActionSchema.{ActionSchema}
 use Rattle.plan_model.specs.declared.schemas.MethodPlan.{MethodPlan}
 use Rattle.plan_model.specs.declared.values.Compiled.{Compiled}
 use Rattle.plan_model.specs.task_networks.Spelling.{numbers, is_heir}
-use Rattle.slot_encoding.specs.SourceParts.{name, source_word, source_param, moved, source_formula, source_effect}
+use Rattle.slot_encoding.specs.SourceParts.{name, source_word, source_param}
 use Rattle.order_encoder.specs.OrderFormulas.{pair_of, wait_parts, clear_parts, copy_parts}
-use Rattle.slot_encoding.specs.EncodedNames.{free_predicate, task_predicate, action_predicate, check_predicate, guard_predicate, slot_param, order_numbers}
-
--- the condition as a list of parts: none where it is an empty conjunction
-abbrev pub no_part : Formula-F Bool → Bool
-no_part (Formula-F.Holds a) = false
-no_part (Formula-F.Equal s t) = false
-no_part (Formula-F.Not f) = false
-no_part (Formula-F.And []) = true
-no_part (Formula-F.And (f ∷ fs)) = false
-no_part (Formula-F.Or fs) = false
-no_part (Formula-F.Imply f g) = false
-no_part (Formula-F.Forall ps f) = false
-no_part (Formula-F.Exists ps f) = false
-
-abbrev pub no_effect : Effect-F Bool → Bool
-no_effect (Effect-F.Add a) = false
-no_effect (Effect-F.Delete a) = false
-no_effect (Effect-F.And []) = true
-no_effect (Effect-F.And (e ∷ es)) = false
-no_effect (Effect-F.Forall ps e) = false
-no_effect (Effect-F.When f e) = false
-
-abbrev pub is_empty : Formula → Bool
-is_empty = fold-Formula Bool no_part
-
-abbrev pub is_empty_effect : Effect → Bool
-is_empty_effect = fold-Effect Bool no_effect
+use Rattle.slot_encoding.specs.EncodedNames.{free_predicate, action_predicate, check_predicate, slot_param, order_numbers}
+pub use Rattle.slot_encoding.specs.MethodParts.{no_part, no_effect, is_empty, is_empty_effect, test, condition_part, change_part, task_in, child_in, children_in, constraint_parts, guard_parts, tested_part}
 
 -- the slot variables of the children, from number i on: the heir has the task's, the others the new ones in number order
 abbrev pub slot_vars : Option ℕ → ℕ → ℕ → ℕ → List ℕ
@@ -65,18 +32,15 @@ abbrev pub differ : List ℕ → List Formula
 differ [] = []
 differ (v ∷ vs) = map (λ u. Not (Equal (Var v) (Var u))) vs ++ differ vs
 
-abbrev pub test : Bool → Term → Term → Formula
-test equal s t = cond equal (Equal s t) (Not (Equal s t))
-
 module _ (c : Compiled) (names : List (List ℕ)) (b : ℕ) (style : Style) where
   abbrev pub is_free : ℕ → Atom
   is_free v = record { predicate = free_predicate c; args = Var v ∷ [] }
 
   abbrev pub source_condition : ℕ → Formula → List Formula
-  source_condition front f = cond (is_empty f) [] (source_formula names c.hddl.names front f ∷ [])
+  source_condition front f = condition_part c names front f
 
   abbrev pub source_change : ℕ → Effect → List Effect
-  source_change front e = cond (is_empty_effect e) [] (source_effect names c.hddl.names front e ∷ [])
+  source_change front e = change_part c names front e
 
   -- what is held goes, and its slot is free; depth is the number of variables in force
   abbrev pub freeing : Atom → ℕ → List Effect
@@ -119,29 +83,22 @@ module _ (c : Compiled) (names : List (List ℕ)) (b : ℕ) (style : Style) wher
 
     -- the task of the method, held in slot 0
     abbrev pub held_task : Atom
-    held_task = record { predicate = task_predicate c plan.schema.task; args = Var 0 ∷ map (moved names c.hddl.names front) plan.schema.task_args }
+    held_task = task_in c names front 0 plan
 
     abbrev pub child_atom : ℕ → Child → Atom
-    child_atom v child = by child.head
-      where
-        by : Head → Atom
-        by (Task t) = record { predicate = task_predicate c t; args = Var v ∷ map (moved names c.hddl.names front) child.args }
-        by (Action a) = record { predicate = action_predicate c a; args = Var v ∷ map (moved names c.hddl.names front) child.args }
-        by Check = record { predicate = check_predicate c m; args = Var v ∷ map (moved names c.hddl.names front) child.args }
+    child_atom v child = child_in c names front m v child
 
     abbrev pub child_atoms : List ℕ → List Child → List Atom
-    child_atoms (v ∷ vs) (child ∷ children) = child_atom v child ∷ child_atoms vs children
-    child_atoms [] children = []
-    child_atoms (v ∷ vs) [] = []
+    child_atoms vs children = children_in c names front m vs children
 
     abbrev pub constraints : List Formula
-    constraints = map (λ (con : Constraint). test con.equal (moved names c.hddl.names front con.left) (moved names c.hddl.names front con.right)) plan.schema.constraints
+    constraints = constraint_parts c names front plan
 
     abbrev pub guards : List Formula
-    guards = map (λ (g : Guard). Holds (record { predicate = guard_predicate c g.ty; args = moved names c.hddl.names front g.term ∷ [] })) plan.guards
+    guards = guard_parts c names front plan
 
     abbrev pub tested : List Formula
-    tested = cond plan.tested (source_condition front plan.schema.pre) []
+    tested = tested_part c names front plan
 
     abbrev pub method_pre : List Formula
     method_pre = Holds held_task ∷ waiting depth ++ (map (λ v. Holds (is_free v)) (numbers 1 spare) ++ (differ (numbers 1 spare) ++ (constraints ++ (guards ++ tested))))

@@ -1,5 +1,6 @@
 pub mod SourceParts
 pub mod EncodedNames
+pub mod MethodParts
 pub mod EncodedActions
 pub mod EncodedValue
 pub mod EncodedWords
