@@ -47,6 +47,7 @@ one_translation_said n o r s a b =
     let e : names_in r.names ≡ names_in s.names = sym a.files ∙ b.files in
     let numeral = a.numeral ∙ sym b.numeral in
     let level = one_some r.level s.level a.level b.level in
+    let form = one_some r.form s.form a.form b.form in
     let style = one_some r.style s.style a.style b.style in
     let checks = one_some r.checks s.checks a.checks b.checks in
     let rule = one_some r.rule s.rule a.rule b.rule in
@@ -55,6 +56,7 @@ one_translation_said n o r s a b =
       names = record { domain = get_or (e i) 0 []; problem = get_or (e i) 1 []; printed_domain = get_or (e i) 2 []; printed_problem = get_or (e i) 3 [] };
       numeral = numeral i;
       level = level i;
+      form = form i;
       style = style i;
       checks = checks i;
       rule = rule i;
@@ -72,6 +74,7 @@ one_decode_said n o r s a b =
     let e : r.domain ∷ r.problem ∷ r.plan ∷ [] ≡ s.domain ∷ s.problem ∷ s.plan ∷ [] = sym a.files ∙ b.files in
     let numeral = a.numeral ∙ sym b.numeral in
     let level = one_some r.level s.level a.level b.level in
+    let form = one_some r.form s.form a.form b.form in
     let checks = one_some r.checks s.checks a.checks b.checks in
     λ i.
     record {
@@ -80,6 +83,7 @@ one_decode_said n o r s a b =
       plan = get_or (e i) 2 [];
       numeral = numeral i;
       level = level i;
+      form = form i;
       checks = checks i;
     }
 
@@ -87,8 +91,9 @@ one_encode_said : (n o : List Word) (r s : EncodeRequest) → SayEncode n o r �
 one_encode_said n o r s a b =
     let e : r.domain ∷ r.problem ∷ r.hplan ∷ [] ≡ s.domain ∷ s.problem ∷ s.hplan ∷ [] = sym a.files ∙ b.files in
     let numeral = a.numeral ∙ sym b.numeral in
+    let form = one_some r.form s.form a.form b.form in
     let checks = one_some r.checks s.checks a.checks b.checks in
-    λ i. record { domain = get_or (e i) 0 []; problem = get_or (e i) 1 []; hplan = get_or (e i) 2 []; numeral = numeral i; checks = checks i }
+    λ i. record { domain = get_or (e i) 0 []; problem = get_or (e i) 1 []; hplan = get_or (e i) 2 []; numeral = numeral i; form = form i; checks = checks i }
 
 one_validation_said : (n o : List Word) (r s : ValidationRequest) → SayValidation n o r → SayValidation n o s → r ≡ s
 one_validation_said n o r s a b =

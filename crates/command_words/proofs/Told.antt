@@ -1,5 +1,5 @@
 -- It is told which request words ask for, or that they ask for none.
-use Rattle.std.proofs.Common.{ℕ, ◌≡◌, ◌≤◌, ◌⊎◌, inl, inr, true, false, true≢false, List, [], ◌∷◌, ◌++◌, length, ◌+◌, take, drop, get_or, Option, Some, None, IfSome, codes, refl, sym, ap, subst, ◌∙◌, arith}
+use Rattle.std.proofs.Common.{ℕ, ◌≡◌, ◌≤◌, ◌⊎◌, inl, inr, true, false, true≢false, List, [], ◌∷◌, ◌++◌, length, ◌+◌, take, drop, get_or, Option, Some, None, IfSome, codes, unwrap_or, refl, sym, ap, subst, ◌∙◌, arith}
 use Rattle.std.specs.Char.{is_ascii_digit}
 use Rattle.std.specs.List.{Contains, list_all, list_any}
 use Rattle.std.specs.Str.{bytes_eq}
@@ -8,10 +8,12 @@ use Rattle.std.proofs.lemmas.Bool.{cases_Bool, cases_lt}
 use Rattle.std.proofs.lemmas.List.{take-append-drop, length-append, length-take-le}
 use Rattle.std.proofs.Math.Seq.{drop-append_seam}
 use Rattle.std.proofs.lemmas.Slice.Eq.{bytes_eq-Decides}
+use Rattle.command_words.specs.declared.form.PrintedForm.{PrintedForm}
+use Rattle.command_words.specs.declared.form.PrintedForm.TheVariants.{Slots, Stack}
 use Rattle.command_words.specs.Names.{Word, Names, AreApart}
 use Rattle.command_words.specs.Bounds.{IsNumeral, IsCount}
 use Rattle.command_words.specs.Forms.{Row, said, AreOptions, AreOf, translation_form, bound_form, decode_form, encode_form, validation_form, make_form, prune_form}
-use Rattle.command_words.specs.Options.{AreSlots, slots_said, style_said, checks_said, level_said, IsComputed, rule_said}
+use Rattle.command_words.specs.Options.{AreSlots, slots_said, style_said, checks_said, level_said, IsComputed, rule_said, form_said, IsOfForm}
 use Rattle.command_words.specs.Words.{TranslationRequest, BoundRequest, DecodeRequest, EncodeRequest, ValidationRequest, MakeRequest, PruneRequest, to_translate, to_bound, to_decode, to_encode, to_validate, to_make, to_prune, AskBy, SayTranslation, SayBound, SayDecode, SayEncode, SayValidation, SayMake, SayPrune, AsksTranslation, AsksBound, AsksDecode, AsksEncode, AsksValidation, AsksMake, AsksPrune, AreOfAForm}
 use Rattle.command_words.proofs.Said.{among_told}
 use Rattle.command_words.proofs.Requests.{not_said, no_form}
@@ -137,9 +139,23 @@ module _ (options : List Word) where
       go None d = inl tt
       go (Some numeral) d = d
 
+  -- a form that is said, with what goes with it
+  printed_form_told : ((v : PrintedForm) × (form_said options ≡ Some v) × IsOfForm v options) ⊎ ((v : PrintedForm) → form_said options ≡ Some v → IsOfForm v options → ⊥)
+  printed_form_told = elim (value_told (form_said options)) [
+    | inl f ↦ elim (of_form f.0) [ inl o ↦ inl (f.0, f.1, o) | inr n ↦ inr (λ v e o. n (subst (λ z. IsOfForm z options) (one_value v f.0 (sym e ∙ f.1)) o)) ]
+    | inr n ↦ inr (λ v e o. n v e)
+  ]
+    where
+      of_form : (v : PrintedForm) → Or_not (IsOfForm v options)
+      of_form Slots = inl tt
+      of_form Stack = both (none_told (said (codes "--style") options)) (none_told (said (codes "--slots") options))
+
+      one_value : (v w : PrintedForm) → Some v ≡ Some w → v ≡ w
+      one_value v w e = ap (λ o. unwrap_or o v) e
+
   translation_of_four : (n : Names) → SaysTold SayTranslation (n.domain ∷ n.problem ∷ n.printed_domain ∷ n.printed_problem ∷ []) options
   translation_of_four n =
-      go (both (apart_told n) (both (slots_told (slots_said options)) computed_told)) (value_told (level_said options)) (value_told (style_said options))
+      go (both (apart_told n) (both (slots_told (slots_said options)) computed_told)) (value_told (level_said options)) printed_form_told (value_told (style_said options))
       (value_told (checks_said options)) (value_told (rule_said options))
     where
       same : (r : TranslationRequest) → SayTranslation (n.domain ∷ n.problem ∷ n.printed_domain ∷ n.printed_problem ∷ []) options r → r.names ≡ n
@@ -147,19 +163,21 @@ module _ (options : List Word) where
 
       go : Or_not (AreApart n × (AreSlots (slots_said options) × IsComputed options))
           → ((v : _) × (level_said options ≡ Some v)) ⊎ ((v : _) → level_said options ≡ Some v → ⊥)
+          → ((v : PrintedForm) × (form_said options ≡ Some v) × IsOfForm v options) ⊎ ((v : PrintedForm) → form_said options ≡ Some v → IsOfForm v options → ⊥)
           → ((v : _) × (style_said options ≡ Some v)) ⊎ ((v : _) → style_said options ≡ Some v → ⊥)
           → ((v : _) × (checks_said options ≡ Some v)) ⊎ ((v : _) → checks_said options ≡ Some v → ⊥)
           → ((v : _) × (rule_said options ≡ Some v)) ⊎ ((v : _) → rule_said options ≡ Some v → ⊥)
           → SaysTold SayTranslation (n.domain ∷ n.problem ∷ n.printed_domain ∷ n.printed_problem ∷ []) options
-      go (inl h) (inl l) (inl s) (inl c) (inl f) = inl (
-        record { names = n; numeral = slots_said options; level = l.0; style = s.0; checks = c.0; rule = f.0 },
-        record { files = refl; numeral = refl; slots = h.1.0; level = l.1; computed = h.1.1; style = s.1; checks = c.1; rule = f.1; apart = h.0 },
+      go (inl h) (inl l) (inl k) (inl s) (inl c) (inl f) = inl (
+        record { names = n; numeral = slots_said options; level = l.0; form = k.0; style = s.0; checks = c.0; rule = f.0 },
+        record { files = refl; numeral = refl; slots = h.1.0; level = l.1; computed = h.1.1; form = k.1; of_form = k.2; style = s.1; checks = c.1; rule = f.1; apart = h.0 },
       )
-      go (inr m) l s c f = inr (λ r a. m (subst AreApart (same r a) a.apart, (subst AreSlots a.numeral a.slots, a.computed)))
-      go (inl h) (inr m) s c f = inr (λ r a. m r.level a.level)
-      go (inl h) (inl l) (inr m) c f = inr (λ r a. m r.style a.style)
-      go (inl h) (inl l) (inl s) (inr m) f = inr (λ r a. m r.checks a.checks)
-      go (inl h) (inl l) (inl s) (inl c) (inr m) = inr (λ r a. m r.rule a.rule)
+      go (inr m) l k s c f = inr (λ r a. m (subst AreApart (same r a) a.apart, (subst AreSlots a.numeral a.slots, a.computed)))
+      go (inl h) (inr m) k s c f = inr (λ r a. m r.level a.level)
+      go (inl h) (inl l) (inr m) s c f = inr (λ r a. m r.form a.form a.of_form)
+      go (inl h) (inl l) (inl k) (inr m) c f = inr (λ r a. m r.style a.style)
+      go (inl h) (inl l) (inl k) (inl s) (inr m) f = inr (λ r a. m r.checks a.checks)
+      go (inl h) (inl l) (inl k) (inl s) (inl c) (inr m) = inr (λ r a. m r.rule a.rule)
 
   not_four : (names : List Word) → (length names ≡ 4 → ⊥) → (r : TranslationRequest) → SayTranslation names options r → ⊥
   not_four names l r a = l (ap length a.files)
@@ -190,19 +208,21 @@ module _ (options : List Word) where
 
   decode_of_three : (d p s : Word) → SaysTold SayDecode (d ∷ p ∷ s ∷ []) options
   decode_of_three d p s =
-      go (both (slots_told (slots_said options)) computed_told) (value_told (level_said options)) (value_told (checks_said options))
+      go (both (slots_told (slots_said options)) computed_told) (value_told (level_said options)) (value_told (form_said options)) (value_told (checks_said options))
     where
       go : Or_not (AreSlots (slots_said options) × IsComputed options)
           → ((v : _) × (level_said options ≡ Some v)) ⊎ ((v : _) → level_said options ≡ Some v → ⊥)
+          → ((v : _) × (form_said options ≡ Some v)) ⊎ ((v : _) → form_said options ≡ Some v → ⊥)
           → ((v : _) × (checks_said options ≡ Some v)) ⊎ ((v : _) → checks_said options ≡ Some v → ⊥)
           → SaysTold SayDecode (d ∷ p ∷ s ∷ []) options
-      go (inl m) (inl l) (inl c) = inl (
-        record { domain = d; problem = p; plan = s; numeral = slots_said options; level = l.0; checks = c.0 },
-        record { files = refl; numeral = refl; slots = m.0; level = l.1; computed = m.1; checks = c.1 },
+      go (inl m) (inl l) (inl k) (inl c) = inl (
+        record { domain = d; problem = p; plan = s; numeral = slots_said options; level = l.0; form = k.0; checks = c.0 },
+        record { files = refl; numeral = refl; slots = m.0; level = l.1; computed = m.1; form = k.1; checks = c.1 },
       )
-      go (inr m) l c = inr (λ r a. m (subst AreSlots a.numeral a.slots, a.computed))
-      go (inl m) (inr n) c = inr (λ r a. n r.level a.level)
-      go (inl m) (inl l) (inr n) = inr (λ r a. n r.checks a.checks)
+      go (inr m) l k c = inr (λ r a. m (subst AreSlots a.numeral a.slots, a.computed))
+      go (inl m) (inr n) k c = inr (λ r a. n r.level a.level)
+      go (inl m) (inl l) (inr n) c = inr (λ r a. n r.form a.form)
+      go (inl m) (inl l) (inl k) (inr n) = inr (λ r a. n r.checks a.checks)
 
   not_files : (names : List Word) → (length names ≡ 3 → ⊥) → (r : DecodeRequest) → SayDecode names options r → ⊥
   not_files names l r a = l (ap length a.files)
@@ -215,16 +235,17 @@ module _ (options : List Word) where
   decode_told (d ∷ p ∷ s ∷ x ∷ names) = inr (not_files (d ∷ p ∷ s ∷ x ∷ names) (λ e. omega (arith, e)))
 
   encode_of_three : (d p s : Word) → SaysTold SayEncode (d ∷ p ∷ s ∷ []) options
-  encode_of_three d p s = go (slots_told (slots_said options)) (value_told (checks_said options))
+  encode_of_three d p s = go (slots_told (slots_said options)) (value_told (form_said options)) (value_told (checks_said options))
     where
-      go : Or_not (AreSlots (slots_said options)) → ((v : _) × (checks_said options ≡ Some v)) ⊎ ((v : _) → checks_said options ≡ Some v → ⊥)
-          → SaysTold SayEncode (d ∷ p ∷ s ∷ []) options
-      go (inl m) (inl c) = inl (
-        record { domain = d; problem = p; hplan = s; numeral = slots_said options; checks = c.0 },
-        record { files = refl; numeral = refl; slots = m; checks = c.1 },
+      go : Or_not (AreSlots (slots_said options)) → ((v : _) × (form_said options ≡ Some v)) ⊎ ((v : _) → form_said options ≡ Some v → ⊥)
+          → ((v : _) × (checks_said options ≡ Some v)) ⊎ ((v : _) → checks_said options ≡ Some v → ⊥) → SaysTold SayEncode (d ∷ p ∷ s ∷ []) options
+      go (inl m) (inl k) (inl c) = inl (
+        record { domain = d; problem = p; hplan = s; numeral = slots_said options; form = k.0; checks = c.0 },
+        record { files = refl; numeral = refl; slots = m; form = k.1; checks = c.1 },
       )
-      go (inr m) c = inr (λ r a. m (subst AreSlots a.numeral a.slots))
-      go (inl m) (inr n) = inr (λ r a. n r.checks a.checks)
+      go (inr m) k c = inr (λ r a. m (subst AreSlots a.numeral a.slots))
+      go (inl m) (inr n) c = inr (λ r a. n r.form a.form)
+      go (inl m) (inl k) (inr n) = inr (λ r a. n r.checks a.checks)
 
   not_inputs : (names : List Word) → (length names ≡ 3 → ⊥) → (r : EncodeRequest) → SayEncode names options r → ⊥
   not_inputs names l r a = l (ap length a.files)

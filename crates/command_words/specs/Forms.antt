@@ -18,16 +18,16 @@ row_of form = record { command = form.command.now; names = form.names; options =
 -- The table of forms.
 
 abbrev pub translation_form : Row
-translation_form = record { command = codes "translate"; names = 4; options = codes "--bound" ∷ codes "--level" ∷ codes "--style" ∷ codes "--checks" ∷ codes "--slots" ∷ [] }
+translation_form = record { command = codes "translate"; names = 4; options = codes "--bound" ∷ codes "--level" ∷ codes "--style" ∷ codes "--checks" ∷ codes "--slots" ∷ codes "--form" ∷ [] }
 
 abbrev pub bound_form : Row
 bound_form = record { command = codes "bound"; names = 2; options = codes "--level" ∷ codes "--checks" ∷ [] }
 
 abbrev pub decode_form : Row
-decode_form = record { command = codes "decode"; names = 3; options = codes "--bound" ∷ codes "--level" ∷ codes "--checks" ∷ [] }
+decode_form = record { command = codes "decode"; names = 3; options = codes "--bound" ∷ codes "--level" ∷ codes "--checks" ∷ codes "--form" ∷ [] }
 
 abbrev pub encode_form : Row
-encode_form = record { command = codes "encode"; names = 3; options = codes "--bound" ∷ codes "--checks" ∷ [] }
+encode_form = record { command = codes "encode"; names = 3; options = codes "--bound" ∷ codes "--checks" ∷ codes "--form" ∷ [] }
 
 abbrev pub validation_form : Row
 validation_form = record { command = codes "validate"; names = 3; options = [] }

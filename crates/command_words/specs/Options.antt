@@ -5,8 +5,10 @@ use Rattle.plan_model.specs.declared.options.Style.{Style}
 use Rattle.plan_model.specs.declared.options.Style.TheVariants.{Adl, Flat}
 use Rattle.plan_model.specs.declared.options.Checks.{Checks}
 use Rattle.plan_model.specs.declared.options.Checks.TheVariants.{Leaf, AtOnce}
-use Rattle.plan_model.specs.declared.options.Slots.{Slots}
+use Rattle.plan_model.specs.declared.options.Slots as rule
 use Rattle.plan_model.specs.declared.options.Slots.TheVariants.{Any, First}
+use Rattle.command_words.specs.declared.form.PrintedForm.{PrintedForm}
+use Rattle.command_words.specs.declared.form.PrintedForm.TheVariants.{Slots, Stack}
 use Rattle.command_words.specs.declared.level.Level.{Level}
 use Rattle.command_words.specs.declared.level.Level.TheVariants.{Lifted, Ground}
 use Rattle.command_words.specs.Names.{Word}
@@ -27,8 +29,11 @@ checks_words = (codes "leaf", Leaf) ∷ (codes "atonce", AtOnce) ∷ []
 abbrev pub level_words : List (Word × Level)
 level_words = (codes "lifted", Lifted) ∷ (codes "ground", Ground) ∷ []
 
-abbrev pub rule_words : List (Word × Slots)
+abbrev pub rule_words : List (Word × rule.Slots)
 rule_words = (codes "any", Any) ∷ (codes "first", First) ∷ []
+
+abbrev pub form_words : List (Word × PrintedForm)
+form_words = (codes "slots", Slots) ∷ (codes "stack", Stack) ∷ []
 
 -- What words say by an option, from the words of all options.
 
@@ -47,8 +52,16 @@ checks_said options = value_by checks_words Leaf (said (codes "--checks") option
 abbrev pub level_said : List Word → Option Level
 level_said options = value_by level_words Lifted (said (codes "--level") options)
 
-abbrev pub rule_said : List Word → Option Slots
+abbrev pub rule_said : List Word → Option rule.Slots
 rule_said options = value_by rule_words Any (said (codes "--slots") options)
+
+abbrev pub form_said : List Word → Option PrintedForm
+form_said options = value_by form_words Slots (said (codes "--form") options)
+
+-- a style and a rule for slots are said of slots alone
+abbrev pub IsOfForm : PrintedForm → List Word → Type 0
+IsOfForm Slots options = Unit {0}
+IsOfForm Stack options = (said (codes "--style") options ≡ None) × (said (codes "--slots") options ≡ None)
 
 -- a level is said only where no number of slots is given, so that a bound is computed
 abbrev pub IsComputed : List Word → Type 0

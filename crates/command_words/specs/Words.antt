@@ -4,6 +4,7 @@ use Rattle.std.specs.Str.Parse.{digits_value}
 use Rattle.plan_model.specs.declared.options.Style.{Style}
 use Rattle.plan_model.specs.declared.options.Checks.{Checks}
 use Rattle.plan_model.specs.declared.options.Slots.{Slots}
+use Rattle.command_words.specs.declared.form.PrintedForm.{PrintedForm}
 use Rattle.command_words.specs.declared.level.Level.{Level}
 use Rattle.command_words.specs.declared.asking.Translation.{Translation}
 use Rattle.command_words.specs.declared.asking.Bounding.{Bounding}
@@ -19,14 +20,15 @@ use Rattle.command_words.specs.declared.commands.Command.TheVariants.{Translate,
 use Rattle.command_words.specs.Names.{Word, Names, names_of, names_in, AreApart}
 use Rattle.command_words.specs.Bounds.{IsCount}
 use Rattle.command_words.specs.Forms.{Row, AreOf, translation_form, bound_form, decode_form, encode_form, validation_form, make_form, prune_form}
-use Rattle.command_words.specs.Options.{AreSlots, slots_said, style_said, checks_said, level_said, IsComputed, rule_said}
+use Rattle.command_words.specs.Options.{AreSlots, slots_said, style_said, checks_said, level_said, IsComputed, rule_said, form_said, IsOfForm}
 
 -- a translation that is asked for: its files, the numeral of its slots where one is given, the level of a bound that is computed, its
--- style, how preconditions of methods are checked, and which free slots a method takes
+-- form, its style, how preconditions of methods are checked, and which free slots a method takes
 pub record TranslationRequest : Type 0 where
   pub names : Names
   pub numeral : Option Word
   pub level : Level
+  pub form : PrintedForm
   pub style : Style
   pub checks : Checks
   pub rule : Slots
@@ -39,22 +41,24 @@ pub record BoundRequest : Type 0 where
   pub checks : Checks
 
 -- a decoding that is asked for: the HDDL texts and the plan, which are read, the numeral of the slots where one is given, the level of
--- a bound that is computed, and how preconditions of methods are checked
+-- a bound that is computed, the form of what was printed, and how preconditions of methods are checked
 pub record DecodeRequest : Type 0 where
   pub domain : Word
   pub problem : Word
   pub plan : Word
   pub numeral : Option Word
   pub level : Level
+  pub form : PrintedForm
   pub checks : Checks
 
 -- an encoding that is asked for: the HDDL texts and the hierarchical plan, which are read, the numeral of the slots where one is given,
--- and how preconditions of methods are checked
+-- the form of what is printed, and how preconditions of methods are checked
 pub record EncodeRequest : Type 0 where
   pub domain : Word
   pub problem : Word
   pub hplan : Word
   pub numeral : Option Word
+  pub form : PrintedForm
   pub checks : Checks
 
 -- a validation that is asked for: the PDDL texts and the plan, which are read
@@ -86,14 +90,16 @@ pub data Request : Type 0 where
 abbrev pub AskBy : {R : Type 0} → Row → (List Word → List Word → R → Type 0) → List Word → R → Type 0
 AskBy form Say words request = (names options : List Word) × AreOf form words names options × Say names options request
 
--- a translation keeps its inputs; its numeral is that of the option, its level is the lifted one, its style is ADL, its checks are leaves
--- and a method takes any free slots where no option says more
+-- a translation keeps its inputs; its numeral is that of the option, its level is the lifted one, its form is that of slots, its style is ADL,
+-- its checks are leaves and a method takes any free slots where no option says more
 pub record SayTranslation (names options : List Word) (request : TranslationRequest) : Type 0 where
   pub files : names ≡ names_in request.names
   pub numeral : request.numeral ≡ slots_said options
   pub slots : AreSlots request.numeral
   pub level : level_said options ≡ Some request.level
   pub computed : IsComputed options
+  pub form : form_said options ≡ Some request.form
+  pub of_form : IsOfForm request.form options
   pub style : style_said options ≡ Some request.style
   pub checks : checks_said options ≡ Some request.checks
   pub rule : rule_said options ≡ Some request.rule
@@ -110,12 +116,14 @@ pub record SayDecode (names options : List Word) (request : DecodeRequest) : Typ
   pub slots : AreSlots request.numeral
   pub level : level_said options ≡ Some request.level
   pub computed : IsComputed options
+  pub form : form_said options ≡ Some request.form
   pub checks : checks_said options ≡ Some request.checks
 
 pub record SayEncode (names options : List Word) (request : EncodeRequest) : Type 0 where
   pub files : names ≡ request.domain ∷ request.problem ∷ request.hplan ∷ []
   pub numeral : request.numeral ≡ slots_said options
   pub slots : AreSlots request.numeral
+  pub form : form_said options ≡ Some request.form
   pub checks : checks_said options ≡ Some request.checks
 
 pub record SayValidation (names options : List Word) (request : ValidationRequest) : Type 0 where
@@ -176,6 +184,7 @@ translation_of t = record {
   names = names_of t.names;
   numeral = option_copied t.numeral;
   level = t.level;
+  form = t.form;
   style = t.style;
   checks = t.checks;
   rule = t.rule;
@@ -185,10 +194,10 @@ abbrev pub bound_of : Bounding → BoundRequest
 bound_of b = record { domain = b.d.now; problem = b.p.now; level = b.level; checks = b.checks }
 
 abbrev pub decode_of : Decoding → DecodeRequest
-decode_of d = record { domain = d.d.now; problem = d.p.now; plan = d.plan.now; numeral = option_copied d.numeral; level = d.level; checks = d.checks }
+decode_of d = record { domain = d.d.now; problem = d.p.now; plan = d.plan.now; numeral = option_copied d.numeral; level = d.level; form = d.form; checks = d.checks }
 
 abbrev pub encode_of : Encoding → EncodeRequest
-encode_of e = record { domain = e.d.now; problem = e.p.now; hplan = e.hplan.now; numeral = option_copied e.numeral; checks = e.checks }
+encode_of e = record { domain = e.d.now; problem = e.p.now; hplan = e.hplan.now; numeral = option_copied e.numeral; form = e.form; checks = e.checks }
 
 abbrev pub validation_of : Validation → ValidationRequest
 validation_of v = record { domain = v.pd.now; problem = v.pp.now; plan = v.plan.now }
@@ -210,20 +219,21 @@ request_of (asked.Pruning p) = to_prune (prune_of p)
 
 -- the words ask for this command
 abbrev pub AskFor : List Word → Command → Type 0
-AskFor words (Translate d p od op bound level style checks slots) =
+AskFor words (Translate d p od op bound level form style checks slots) =
     AsksTranslation words record {
       names = record { domain = d.now; problem = p.now; printed_domain = od.now; printed_problem = op.now };
       numeral = option_copied bound;
       level = level;
+      form = form;
       style = style;
       checks = checks;
       rule = slots;
     }
 AskFor words (Bound d p level checks) = AsksBound words record { domain = d.now; problem = p.now; level = level; checks = checks }
-AskFor words (Decode d p plan bound level checks) =
-    AsksDecode words record { domain = d.now; problem = p.now; plan = plan.now; numeral = option_copied bound; level = level; checks = checks }
-AskFor words (Encode d p hplan bound checks) =
-    AsksEncode words record { domain = d.now; problem = p.now; hplan = hplan.now; numeral = option_copied bound; checks = checks }
+AskFor words (Decode d p plan bound level form checks) =
+    AsksDecode words record { domain = d.now; problem = p.now; plan = plan.now; numeral = option_copied bound; level = level; form = form; checks = checks }
+AskFor words (Encode d p hplan bound form checks) =
+    AsksEncode words record { domain = d.now; problem = p.now; hplan = hplan.now; numeral = option_copied bound; form = form; checks = checks }
 AskFor words (Validate pd pp plan) = AsksValidation words record { domain = pd.now; problem = pp.now; plan = plan.now }
 AskFor words (Make k od op) =
     (numeral : Word) × (k ≡ number_of numeral)

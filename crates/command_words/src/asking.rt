@@ -1,3 +1,4 @@
+use crate::form::PrintedForm;
 use crate::level::Level;
 use crate::names::Named;
 use plan_model::{Checks, Slots, Style};
@@ -15,12 +16,13 @@ pub enum Asked<'a> {
 }
 
 /// A translation that is asked for: its files, the numeral of its slots where one is given, the level of
-/// a bound that is computed, its style, its checks of preconditions, and its rule for new slots.
+/// a bound that is computed, its form, its style, its checks of preconditions, and its rule for new slots.
 #[derive(Clone, Copy)]
 pub struct Translation<'a> {
     pub names: Named<'a>,
     pub numeral: Option<&'a str>,
     pub level: Level,
+    pub form: PrintedForm,
     pub style: Style,
     pub checks: Checks,
     pub rule: Slots,
@@ -36,7 +38,7 @@ pub struct Bounding<'a> {
 }
 
 /// A decoding that is asked for: the HDDL domain and problem and the plan, which are read, the numeral of the slots where one is
-/// given, the level of a bound that is computed, and the checks of preconditions.
+/// given, the level of a bound that is computed, the form of what was printed, and the checks of preconditions.
 #[derive(Clone, Copy)]
 pub struct Decoding<'a> {
     pub d: &'a str,
@@ -44,17 +46,19 @@ pub struct Decoding<'a> {
     pub plan: &'a str,
     pub numeral: Option<&'a str>,
     pub level: Level,
+    pub form: PrintedForm,
     pub checks: Checks,
 }
 
 /// An encoding that is asked for: the HDDL domain and problem and the hierarchical plan, which are read, the numeral of the slots where
-/// one is given, and the checks of preconditions.
+/// one is given, the form of what is printed, and the checks of preconditions.
 #[derive(Clone, Copy)]
 pub struct Encoding<'a> {
     pub d: &'a str,
     pub p: &'a str,
     pub hplan: &'a str,
     pub numeral: Option<&'a str>,
+    pub form: PrintedForm,
     pub checks: Checks,
 }
 

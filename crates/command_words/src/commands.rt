@@ -1,3 +1,4 @@
+use crate::form::PrintedForm;
 use crate::level::Level;
 use plan_model::{Checks, Slots, Style};
 
@@ -12,6 +13,7 @@ pub enum Command<'a> {
         op: &'a str,
         bound: Option<&'a str>,
         level: Level,
+        form: PrintedForm,
         style: Style,
         checks: Checks,
         slots: Slots,
@@ -30,6 +32,7 @@ pub enum Command<'a> {
         plan: &'a str,
         bound: Option<&'a str>,
         level: Level,
+        form: PrintedForm,
         checks: Checks,
     },
     /// Read the HDDL domain `d` and problem `p`, and print the steps of the latest schedule of the hierarchical plan in `hplan`.
@@ -38,6 +41,7 @@ pub enum Command<'a> {
         p: &'a str,
         hplan: &'a str,
         bound: Option<&'a str>,
+        form: PrintedForm,
         checks: Checks,
     },
     /// Read the PDDL domain `pd` and problem `pp`, and tell whether the list in `plan` is a plan

@@ -16,7 +16,9 @@ pub(crate) struct Form<'a> {
 pub(crate) const TRANSLATION: Form<'static> = Form {
     command: "translate",
     names: 4,
-    options: &["--bound", "--level", "--style", "--checks", "--slots"],
+    options: &[
+        "--bound", "--level", "--style", "--checks", "--slots", "--form",
+    ],
 };
 
 pub(crate) const BOUND: Form<'static> = Form {
@@ -28,13 +30,13 @@ pub(crate) const BOUND: Form<'static> = Form {
 pub(crate) const DECODING: Form<'static> = Form {
     command: "decode",
     names: 3,
-    options: &["--bound", "--level", "--checks"],
+    options: &["--bound", "--level", "--checks", "--form"],
 };
 
 pub(crate) const ENCODING: Form<'static> = Form {
     command: "encode",
     names: 3,
-    options: &["--bound", "--checks"],
+    options: &["--bound", "--checks", "--form"],
 };
 
 pub(crate) const VALIDATION: Form<'static> = Form {

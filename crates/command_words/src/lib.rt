@@ -7,6 +7,7 @@
 mod asking;
 mod bounds;
 mod commands;
+mod form;
 mod forms;
 mod level;
 mod names;
@@ -16,6 +17,7 @@ mod words;
 pub use asking::{Asked, Bounding, Decoding, Encoding, Making, Pruning, Translation, Validation};
 pub use bounds::{Bound, bound_of, comes_to, count_of};
 pub use commands::Command;
+pub use form::PrintedForm;
 pub use level::Level;
 pub use names::Named;
 pub use words::{asked, command};

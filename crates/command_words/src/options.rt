@@ -1,9 +1,10 @@
 ghost use Rattle.std.specs.Prelude.{◌≡◌, ◌↔◌, IsTrue};
 ghost use Rattle.std.specs.Option.{option_copied};
 ghost use Rattle.command_words.specs.Names.{words_of};
-ghost use Rattle.command_words.specs.Options.{AreSlots, checks_said, IsComputed, level_said, rule_said, slots_said, style_said};
+ghost use Rattle.command_words.specs.Options.{AreSlots, checks_said, form_said, IsComputed, IsOfForm, level_said, rule_said, slots_said, style_said};
 
 use crate::bounds::is_numeral;
+use crate::form::PrintedForm;
 use crate::forms::said;
 use crate::level::Level;
 use plan_model::{Checks, Slots, Style};
@@ -58,6 +59,30 @@ pub(crate) fn rule(options: &[String]) -> Option<Slots>
         Some(word) if word == "any" => Some(Slots::Any),
         Some(word) if word == "first" => Some(Slots::First),
         Some(_) => None,
+    }
+}
+
+/// The form that the options say; `None` where their word is of no form.
+pub(crate) fn form(options: &[String]) -> Option<PrintedForm>
+    ensures { result ≡ form_said (words_of options.now) }
+{
+    match said("--form", options) {
+        None => Some(PrintedForm::Slots),
+        Some(word) if word == "slots" => Some(PrintedForm::Slots),
+        Some(word) if word == "stack" => Some(PrintedForm::Stack),
+        Some(_) => None,
+    }
+}
+
+/// Whether a style and a rule for new slots are said only of slots.
+pub(crate) fn is_of_form(options: &[String], form: PrintedForm) -> bool
+    ensures { IsTrue result ↔ IsOfForm form (words_of options.now) }
+{
+    match form {
+        PrintedForm::Slots => true,
+        PrintedForm::Stack => {
+            said("--style", options).is_none() && said("--slots", options).is_none()
+        }
     }
 }
 

@@ -10,18 +10,18 @@ use crate::bounds::{count_of, is_count};
 use crate::commands::Command;
 use crate::forms::{BOUND, DECODING, ENCODING, MAKING, PRUNING, TRANSLATION, VALIDATION, parts_of};
 use crate::names::{Named, are_apart};
-use crate::options::{are_slots, checks, is_computed, level, rule, slots, style};
+use crate::options::{are_slots, checks, form, is_computed, is_of_form, level, rule, slots, style};
 
 /// The command that the words ask for; `None` exactly where the words are of no command's form.
 /// It takes no memory.
 ///
 /// The forms are `translate D P OD OP` with the options `--bound N` or `--level lifted|ground`, `--style adl|flat`,
-/// `--checks leaf|atonce` and `--slots any|first`, where OD and OP differ and neither is D or P, `bound D P` with the options
-/// `--level lifted|ground` and `--checks leaf|atonce`, `decode D P PLAN` with the options `--bound N` or
-/// `--level lifted|ground`, and `--checks leaf|atonce`, `encode D P HPLAN` with the options `--bound N` and
-/// `--checks leaf|atonce`, `validate PD PP PLAN`, `make K OD OP`, where OD and OP differ, and `prune D P OD OP`, whose names
-/// are apart as those of `translate`. Options come in any order and may be left out: the level is then `lifted`, the style
-/// `adl`, the checks are `leaf`, and the slots `any`.
+/// `--checks leaf|atonce`, `--slots any|first` and `--form slots|stack`, where OD and OP differ and neither is D or P, and a style and
+/// `--slots` are given of form `slots` alone; `bound D P` with the options `--level lifted|ground` and `--checks leaf|atonce`,
+/// `decode D P PLAN` with the options `--bound N` or `--level lifted|ground`, `--checks leaf|atonce` and `--form slots|stack`,
+/// `encode D P HPLAN` with the options `--bound N`, `--checks leaf|atonce` and `--form slots|stack`, `validate PD PP PLAN`,
+/// `make K OD OP`, where OD and OP differ, and `prune D P OD OP`, whose names are apart as those of `translate`. Options come in any
+/// order and may be left out: the level is then `lifted`, the form `slots`, the style `adl`, the checks are `leaf`, and the slots `any`.
 pub fn command(words: &[String]) -> Option<Command<'_>>
     ensures asked { IfSome result (AskFor (words_of words.now)) }
     ensures formless { IfNone result (AreOfAForm (words_of words.now) → ⊥) }
@@ -34,6 +34,7 @@ pub fn command(words: &[String]) -> Option<Command<'_>>
             op: asked.names.op,
             bound: asked.numeral,
             level: asked.level,
+            form: asked.form,
             style: asked.style,
             checks: asked.checks,
             slots: asked.rule,
@@ -50,6 +51,7 @@ pub fn command(words: &[String]) -> Option<Command<'_>>
             plan: asked.plan,
             bound: asked.numeral,
             level: asked.level,
+            form: asked.form,
             checks: asked.checks,
         }),
         Asked::Encoding(asked) => Some(Command::Encode {
@@ -57,6 +59,7 @@ pub fn command(words: &[String]) -> Option<Command<'_>>
             p: asked.p,
             hplan: asked.hplan,
             bound: asked.numeral,
+            form: asked.form,
             checks: asked.checks,
         }),
         Asked::Validation(asked) => Some(Command::Validate {
@@ -131,10 +134,15 @@ fn translation<'a>(names: &'a [String], options: &'a [String]) -> Option<Transla
     if !are_apart(&names) || !are_slots(numeral) || !is_computed(options) {
         return None;
     }
+    let form = form(options)?;
+    if !is_of_form(options, form) {
+        return None;
+    }
     Some(Translation {
         names,
         numeral,
         level: level(options)?,
+        form,
         style: style(options)?,
         checks: checks(options)?,
         rule: rule(options)?,
@@ -195,6 +203,7 @@ fn decoding<'a>(names: &'a [String], options: &'a [String]) -> Option<Decoding<'
         plan: plan.as_str(),
         numeral,
         level: level(options)?,
+        form: form(options)?,
         checks: checks(options)?,
     })
 }
@@ -226,6 +235,7 @@ fn encoding<'a>(names: &'a [String], options: &'a [String]) -> Option<Encoding<'
         p: p.as_str(),
         hplan: hplan.as_str(),
         numeral,
+        form: form(options)?,
         checks: checks(options)?,
     })
 }

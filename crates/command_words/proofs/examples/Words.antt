@@ -1,10 +1,13 @@
 -- Worked words of the command line.
-use Rattle.std.proofs.Common.{List, [], ◌∷◌, Some, codes, refl, ap, get_or, arith, lit≤, lit<}
+use Rattle.std.proofs.Common.{◌≡◌, List, [], ◌∷◌, Some, codes, refl, ap, get_or, arith, lit≤, lit<}
 use Rattle.plan_model.specs.declared.options.Style.TheVariants.{Flat}
 use Rattle.plan_model.specs.declared.options.Checks.TheVariants.{Leaf, AtOnce}
 use Rattle.plan_model.specs.declared.options.Slots.TheVariants.{First}
+use Rattle.command_words.specs.declared.form.PrintedForm.{PrintedForm}
+use Rattle.command_words.specs.declared.form.PrintedForm.TheVariants.{Slots, Stack}
 use Rattle.command_words.specs.declared.level.Level.TheVariants.{Lifted, Ground}
 use Rattle.command_words.specs.Names.{Word, Names, names_in, AreApart}
+use Rattle.command_words.specs.Options.{IsOfForm}
 use Rattle.command_words.specs.Forms.{AreOptions, AreOf, translation_form, bound_form, prune_form}
 use Rattle.command_words.specs.Words.{SayTranslation, TranslationRequest, to_translate, to_bound, to_decode, to_encode, to_validate, to_make, to_prune, AsksTranslation, AsksBound, AsksMake, AsksPrune, AreOfAForm}
 use Rattle.command_words.proofs.Said.{among_told}
@@ -21,14 +24,14 @@ abbrev options : List Word
 options = codes "--style" ∷ codes "flat" ∷ codes "--slots" ∷ codes "first" ∷ codes "--bound" ∷ codes "1" ∷ []
 
 abbrev request : TranslationRequest
-request = record { names = files; numeral = Some (codes "1"); level = Lifted; style = Flat; checks = Leaf; rule = First }
+request = record { names = files; numeral = Some (codes "1"); level = Lifted; form = Slots; style = Flat; checks = Leaf; rule = First }
 
 one_slot : AsksTranslation (codes "translate" ∷ codes "d.hddl" ∷ codes "p.hddl" ∷ codes "od.pddl" ∷ codes "op.pddl" ∷ options) request
 one_slot = (
   names_in files,
   options,
   record { spelled = refl; counted = refl; allowed = ((2, lit< tt, refl), refl, ((4, lit< tt, refl), refl, ((0, lit< tt, refl), refl, tt))) },
-  record { files = refl; numeral = refl; slots = record { digits = refl; some = lit≤ tt; few = lit≤ tt; above_zero = lit≤ tt }; level = refl; computed = refl; style = refl; checks = refl; rule = refl; apart = files_apart },
+  record { files = refl; numeral = refl; slots = record { digits = refl; some = lit≤ tt; few = lit≤ tt; above_zero = lit≤ tt }; level = refl; computed = refl; form = refl; of_form = tt; style = refl; checks = refl; rule = refl; apart = files_apart },
 )
 
 -- a bound over what is reached, with its checks at once
@@ -45,6 +48,21 @@ at_once = (
 level_and_slots : (names : List Word) (r : TranslationRequest)
     → SayTranslation names (codes "--level" ∷ codes "lifted" ∷ codes "--bound" ∷ codes "1" ∷ []) r → ⊥
 level_and_slots names r says = let e = says.computed in cc
+
+-- so are a stack and a style, a stack and a rule for slots
+stack_and_style : (names : List Word) (r : TranslationRequest) → SayTranslation names (codes "--form" ∷ codes "stack" ∷ codes "--style" ∷ codes "adl" ∷ []) r → ⊥
+stack_and_style names r says = refused r.form says.form says.of_form
+  where
+    refused : (v : PrintedForm) → Some Stack ≡ Some v → IsOfForm v (codes "--form" ∷ codes "stack" ∷ codes "--style" ∷ codes "adl" ∷ []) → ⊥
+    refused Stack e o = let n = o.0 in cc
+    refused Slots e o = cc
+
+stack_and_rule : (names : List Word) (r : TranslationRequest) → SayTranslation names (codes "--slots" ∷ codes "any" ∷ codes "--form" ∷ codes "stack" ∷ []) r → ⊥
+stack_and_rule names r says = refused r.form says.form says.of_form
+  where
+    refused : (v : PrintedForm) → Some Stack ≡ Some v → IsOfForm v (codes "--slots" ∷ codes "any" ∷ codes "--form" ∷ codes "stack" ∷ []) → ⊥
+    refused Stack e o = let n = o.1 in cc
+    refused Slots e o = cc
 
 -- a bound is of no rule for slots
 bound_of_first : AreOptions bound_form.options (codes "--slots" ∷ codes "first" ∷ []) → ⊥
