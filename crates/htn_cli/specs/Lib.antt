@@ -8,6 +8,7 @@ pub mod Inputs
 pub mod Answer
 pub mod Slots
 pub mod Levels
+pub mod PrintedForms
 pub mod Problem
 pub mod Texts
 pub mod Translation

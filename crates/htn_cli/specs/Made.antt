@@ -33,7 +33,7 @@ NamesDiffer made = IfSome made.written (λ written. written.od.now ≢ written.o
 
 module _ (request : TranslationRequest) where
   abbrev pub manner_of : ℕ → Manner
-  manner_of slots = record { slots = slots; rule = request.rule; style = request.style; checks = request.checks }
+  manner_of slots = record { slots = slots; form = request.form; rule = request.rule; style = request.style; checks = request.checks }
 
   -- the texts of a problem with so many slots, for the files of the request, and their line
   module _ (compiled : Compiled) (slots : ℕ) where

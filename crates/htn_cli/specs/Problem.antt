@@ -6,7 +6,9 @@ use Rattle.plan_model.specs.declared.values.Hddl.{Hddl}
 use Rattle.plan_model.specs.declared.values.Compiled.{Compiled}
 use Rattle.plan_model.specs.plan_meaning.Compilation.{IsCompiled}
 use Rattle.text_values.specs.Values.{IsValueOf}
+use Rattle.htn_cli.specs.PrintedForms.{IsOrderedFor, NamesUnordered}
 use Rattle.htn_cli.specs.Levels.{IsBoundAt, NamesCycleAt, IsPastCount}
+use Rattle.command_words.specs.declared.form.PrintedForm.{PrintedForm}
 use Rattle.command_words.specs.declared.level.Level.{Level}
 
 module _ (domain problem : List ℕ) (checks : Checks) where
@@ -15,6 +17,14 @@ module _ (domain problem : List ℕ) (checks : Checks) where
     pub value : Hddl
     pub read : IsValueOf domain problem value
     pub compiled_is : IsCompiled value checks compiled
+
+  -- they spell a problem that is printed in this form
+  abbrev pub AreFor : PrintedForm → Type 0
+  AreFor form = (compiled : Compiled) × SpellProblem compiled × IsOrderedFor form compiled
+
+  -- they spell a problem whose first method that is not totally ordered has this word
+  abbrev pub HaveUnordered : List ℕ → Type 0
+  HaveUnordered word = (compiled : Compiled) × SpellProblem compiled × NamesUnordered compiled word
 
   -- at a level
   module _ (level : Level) where

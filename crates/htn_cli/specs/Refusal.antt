@@ -92,6 +92,7 @@ why_word reason.GoalFalse = codes "GoalFalse"
 
 abbrev pub finding_text : Finding → List ℕ
 finding_text (finding.NotTailRecursive words) = codes "not tail-recursive:" ++ words
+finding_text (finding.NotTotallyOrdered word) = codes "not totally ordered: " ++ word
 finding_text (finding.NotAPlan step why) = codes "not a plan: step " ++ decimal step ++ codes " " ++ cause_word why
 finding_text (finding.SpellsNoSolution step why) = codes "not a plan: step " ++ decimal step ++ codes " " ++ why_word why
 finding_text (finding.NoMatch None) = codes "no match: root"

@@ -6,11 +6,9 @@ use Rattle.plan_model.specs.declared.values.Hddl.{Hddl}
 use Rattle.plan_model.specs.declared.values.Compiled.{Compiled}
 use Rattle.plan_model.specs.declared.values.Pddl.{Pddl}
 use Rattle.plan_texts.specs.PrintedTexts.{domain_text, problem_text}
-use Rattle.slot_encoding.specs.FirstFree.{IsEncodedBy, HasWordsBy}
-use Rattle.slot_encoding.specs.Existence.{HasEncodedValueBy}
-use Rattle.slot_encoding.specs.Printed.{IsPrintedBy}
 use Rattle.text_forms.specs.sheets.Sheets.{capped}
 use Rattle.problem_texts.specs.declared.printing.Texts.{Texts as Printed}
+use Rattle.htn_cli.specs.PrintedForms.{IsEncodedAs, HasWordsAs, HasEncodedValueAs, IsPrintedAs}
 use Rattle.htn_cli.specs.declared.manner.Manner.{Manner}
 
 pub record Texts : Type 0 where
@@ -29,8 +27,8 @@ IsFirstTooLong domain problem n =
 -- the texts are those of a value that is printed for the problem, of which this is the compiled value
 pub record AreTranslated (read : Hddl) (compiled : Compiled) (manner : Manner) (texts : Texts) : Type 0 where
   pub value : Pddl
-  pub printed : IsPrintedBy manner.rule read manner.checks compiled manner.slots manner.style value
-  pub words : HasWordsBy manner.rule compiled manner.slots value.names
+  pub printed : IsPrintedAs manner.form manner.rule read manner.checks compiled manner.slots manner.style value
+  pub words : HasWordsAs manner.form manner.rule compiled manner.slots value.names
   pub domain_is : texts.domain ≡ domain_text value
   pub problem_is : texts.problem ≡ problem_text value
   pub domain_fits : length texts.domain ≤ longest_output
@@ -38,6 +36,6 @@ pub record AreTranslated (read : Hddl) (compiled : Compiled) (manner : Manner) (
 
 -- there is an encoded value of the problem that has all its words, and of each such value the first text that is too long has this length
 pub record AreTooLong (compiled : Compiled) (manner : Manner) (n : ℕ) : Type 0 where
-  pub encoded : HasEncodedValueBy manner.rule compiled manner.slots manner.style
-  pub too_long : (value : Pddl) → IsEncodedBy manner.rule compiled manner.slots manner.style value → HasWordsBy manner.rule compiled manner.slots value.names
+  pub encoded : HasEncodedValueAs manner.form manner.rule compiled manner.slots manner.style
+  pub too_long : (value : Pddl) → IsEncodedAs manner.form manner.rule compiled manner.slots manner.style value → HasWordsAs manner.form manner.rule compiled manner.slots value.names
       → IsFirstTooLong (domain_text value) (problem_text value) n

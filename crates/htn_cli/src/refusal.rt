@@ -48,6 +48,8 @@ pub enum Limit<'a> {
 pub enum Finding {
     /// The problem is not tail-recursive, or not in what is reached: the words of the named bad cycle, each behind a space.
     NotTailRecursive(Text),
+    /// A method isn't totally ordered: the word of the first.
+    NotTotallyOrdered(Text),
     /// The list is no plan: the first step that fails, counted from 1, and its first cause.
     NotAPlan(u32, FailWhy),
     /// The list spells no solution: the step that fails, counted from 1, and its first cause.
@@ -188,6 +190,13 @@ impl Finding {
         let (before, middle, after) = match self {
             Finding::NotTailRecursive(words) => {
                 ("not tail-recursive:", Middle::Words(words.as_slice()), "\n")
+            }
+            Finding::NotTotallyOrdered(word) => {
+                (
+                    "not totally ordered: ",
+                    Middle::Words(word.as_slice()),
+                    "\n",
+                )
             }
             Finding::NotAPlan(step, why) => {
                 (

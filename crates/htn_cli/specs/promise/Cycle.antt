@@ -27,3 +27,8 @@ TellsCycle Lifted checks d p err err' = ForEach d p checks (λ h c. (edges : Lis
 TellsCycle Ground checks d p err err' =
     ForEach d p checks (λ h c. (e : ground.Edge GroundMethod) × (walk : List (ground.Edge GroundMethod)) × IsGroundCycle c e walk
     × Told (ground_cycle_line c (e ∷ walk)) err err')
+
+-- a problem that is not totally ordered: the line tells its first method that is not
+abbrev pub TellsUnordered : (checks : Checks) (d p : List ℕ) → SinkState → SinkState → Type 0
+TellsUnordered checks d p err err' =
+    ForEach d p checks (λ h c. (m : ℕ) × IsFirstUnordered c m × Told (line_of (refused.Finding (finding.NotTotallyOrdered (unordered_word c m)))) err err')

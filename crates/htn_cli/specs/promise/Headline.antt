@@ -7,27 +7,31 @@ use Rattle.outside_io.specs.Sink.{SinkState}
 use Rattle.plan_model.specs.declared.options.Slots.TheVariants.{First}
 use Rattle.plan_model.specs.plan_meaning.Network.{network}
 use Rattle.slot_machine.specs.Laws.{PendingAreOpenLeaves}
+use Rattle.stack_proof.specs.OneTree.{OnePlanForEachTree}
 use Rattle.plan_proof.specs.Headline.{HeadlineBy, HeadlineAtBoundBy, OnePlanForEach, LosesNothingBy}
-use Rattle.first_slots.specs.LowestSpelling.{SpellingBy}
+use Rattle.command_words.specs.declared.form.PrintedForm.TheVariants.{Stack}
 use Rattle.command_words.specs.Names.{Word}
 use Rattle.command_words.specs.Words.{TranslationRequest, number_of, AsksTranslation}
+use Rattle.htn_cli.specs.PrintedForms.{SpellingAs}
 use Rattle.htn_cli.specs.Told.{IsToldToRead, IsToldToHold}
 use Rattle.htn_cli.specs.Lines.{slots_line}
 use Rattle.htn_cli.specs.Sent.{TakesWhole}
 use Rattle.htn_cli.specs.promise.Problems.{ForEach}
 
 -- what two printed texts are with so many slots: a list is a plan of them exactly where it spells a schedule of a solution tree with never
--- more tasks pending; spelled with free slots by the rule of the request, any ones or the lowest
+-- more tasks pending; spelled with free slots by the rule of the request, any ones or the lowest, or with the cells of a stack
 pub record KeepPlans (request : TranslationRequest) (d p od op : List ℕ) (slots : ℕ) : Type 0 where
   pub given : IfSome request.numeral (λ numeral. slots ≡ number_of numeral)
-  pub headline : HeadlineBy (SpellingBy request.rule) d p request.checks slots od op
-  pub at_bound : HeadlineAtBoundBy (SpellingBy request.rule) d p request.checks slots od op
+  pub headline : HeadlineBy (SpellingAs request.form request.rule) d p request.checks slots od op
+  pub at_bound : HeadlineAtBoundBy (SpellingAs request.form request.rule) d p request.checks slots od op
   -- after a whole schedule what is pending are the open leaves
   pub open_leaves : ForEach d p request.checks (λ h c. PendingAreOpenLeaves (network c))
   -- without a given number of slots no schedule of any solution is lost
-  pub nothing_lost : request.numeral ≡ None → ForEach d p request.checks (λ h c. LosesNothingBy (SpellingBy request.rule) c slots od op)
+  pub nothing_lost : request.numeral ≡ None → ForEach d p request.checks (λ h c. LosesNothingBy (SpellingAs request.form request.rule) c slots od op)
   -- with the lowest free slots each such schedule has exactly one plan
-  pub one_plan : request.rule ≡ First → OnePlanForEach (SpellingBy request.rule) d p request.checks slots od op
+  pub one_plan : request.rule ≡ First → OnePlanForEach (SpellingAs request.form request.rule) d p request.checks slots od op
+  -- with a stack each such tree has exactly one
+  pub one_tree : request.form ≡ Stack → OnePlanForEachTree (SpellingAs request.form request.rule) d p request.checks slots od op
 
 -- the number of slots that was told, and what the two written texts are with so many
 pub record KeepsPlans (request : TranslationRequest) (d p od op : List ℕ) (out out' : SinkState) : Type 0 where
