@@ -15,31 +15,33 @@ use Rattle.plan_model.specs.plan_meaning.Compilation.{IsCompiled}
 use Rattle.plan_texts.specs.FirstSeen.{IsHddlOf}
 use Rattle.plan_texts.specs.PrintedTexts.{domain_text, problem_text}
 use Rattle.slot_encoding.specs.Existence.{HasEncodedValue}
-use Rattle.slot_encoding.specs.Printed.{IsPrinted, IsPrintedBy}
+use Rattle.slot_encoding.specs.Printed.{IsPrinted}
 use Rattle.slot_encoding.proofs.existence.Encoded.{has_encoded_value}
 use Rattle.slot_encoding.proofs.words.EncodedIsPrintable.{countable_printable}
 use Rattle.plan_proof.specs.Headline.{Headline, HeadlineBy, SpellsSolution}
 use Rattle.plan_proof.specs.OneGraph.{HaveOneGraph}
 use Rattle.plan_proof.proofs.one.OneGraph.{one_graph}
 use Rattle.plan_proof.proofs.values.Headlines.{headline_of}
-use Rattle.first_slots.specs.LowestSpelling.{SpellingBy}
-use Rattle.first_slots.proofs.Headlines.{printed_by-rule, headline_by-rule}
+use Rattle.stack_proof.specs.OrderedAlike.{AreOrderedAlike}
 use Rattle.bound_calc.specs.NoBound.{spaced}
 use Rattle.reached_parts.specs.HowMany.{most_reached, IsAtMost}
 use Rattle.ground_answers.specs.GroundLaws.{AreGroundAlike, ValuesHaveOneGroundBound}
+use Rattle.command_words.specs.declared.form.PrintedForm.{PrintedForm}
 use Rattle.command_words.specs.declared.level.Level.{Level}
 use Rattle.command_words.specs.declared.level.Level.TheVariants.{Lifted, Ground}
 use Rattle.command_words.specs.Names.{Word}
 use Rattle.command_words.specs.Words.{number_of}
 use Rattle.htn_cli.specs.Levels.{IsBoundAt, NamesCycleAt}
+use Rattle.htn_cli.specs.PrintedForms.{NamesUnordered, SpellingAs, IsPrintedAs}
 use Rattle.htn_cli.specs.Problem.{SpellProblem}
 use Rattle.htn_cli.specs.Refusal.{line_of}
 use Rattle.htn_cli.specs.Sent.{Told}
 use Rattle.htn_cli.specs.Translation.{AreSlotsOf}
-use Rattle.htn_cli.specs.promise.Cycle.{TellsCycle}
+use Rattle.htn_cli.specs.promise.Cycle.{TellsCycle, TellsUnordered}
 use Rattle.htn_cli.specs.declared.refusal.Finding.TheVariants as finding
 use Rattle.htn_cli.specs.declared.refusal.Refusal.TheVariants as refused
 use Rattle.htn_cli.proofs.SameCycles.{named_back, words_same}
+use Rattle.htn_cli.proofs.ByForm.{headline, printed_too, ordered_alike-of, word_same}
 use Rattle.htn_cli.proofs.SomeCounts.{countable}
 
 -- the number of slots is the given one, or else the bound
@@ -86,12 +88,24 @@ module _ (d p : List ℕ) (checks : Checks) (c : Compiled) (source : SpellProble
         (e, walk, same.cycle e walk named, subst (λ z. told_by z err err') line told)
         )
 
+  -- and the same first method that is not totally ordered
+  pub unordered_of_each : (word : List ℕ) → NamesUnordered c word → (err err' : SinkState) → Told (line_of (refused.Finding (finding.NotTotallyOrdered word))) err err'
+      → TellsUnordered checks d p err err'
+  unordered_of_each word (m, first, is) err err' told h k s compiled = (
+    m,
+    ((ordered h k s compiled).first m).0 first,
+    subst (λ z. Told (line_of (refused.Finding (finding.NotTotallyOrdered z))) err err') (is ∙ word_same c k (ordered h k s compiled).words m) told,
+  )
+    where
+      ordered : (h : Hddl) (k : Compiled) → IsHddlOf d p h → IsCompiled h checks k → AreOrderedAlike c k
+      ordered h k s compiled = ordered_alike-of d p source.value h checks c k source.read.spelled s source.read.sound.value source.compiled_is compiled
+
   -- two texts that are printed for one of them have the meaning of each
-  pub faithful_of_each : (rule : Slots) (slots : ℕ) (style : Style) (value : Pddl) (h : Hddl) (k : Compiled) → IsHddlOf d p h → IsPrintedBy rule h checks k slots style value
-      → HeadlineBy (SpellingBy rule) d p checks slots (domain_text value) (problem_text value)
-  faithful_of_each rule slots style value h k s printed =
-      let here = printed_by-rule d p h source.value checks k c slots style value s source.read.spelled source.compiled_is rule printed in
-      headline_by-rule d p source.value checks c slots style value source.read.spelled source.read.ordered rule here
+  pub faithful_of_each : (form : PrintedForm) (rule : Slots) (slots : ℕ) (style : Style) (value : Pddl) (h : Hddl) (k : Compiled) → IsHddlOf d p h → IsPrintedAs form rule h checks k slots style value
+      → HeadlineBy (SpellingAs form rule) d p checks slots (domain_text value) (problem_text value)
+  faithful_of_each form rule slots style value h k s printed =
+      let here = printed_too d p h source.value checks k c slots style value s source.read.spelled source.compiled_is rule form printed in
+      headline d p source.value checks c slots style value source.read.spelled source.read.ordered rule form here
 
   -- and some texts are printed
   module _ (slots : ℕ) (some : 1 ≤ slots) (few : slots ≤ most_slots) where

@@ -13,16 +13,16 @@ use Rattle.plan_model.specs.task_networks.Pending.{IsWithin}
 use Rattle.plan_model.specs.plan_meaning.Network.{network}
 use Rattle.plan_model.specs.plan_meaning.Solution.{IsSolution}
 use Rattle.plan_model.specs.declared.options.Checks.{Checks}
-use Rattle.plan_model.specs.declared.options.Slots.{Slots}
 use Rattle.plan_model.specs.declared.options.Slots.TheVariants.{First}
 use Rattle.slot_machine.proofs.SpellingSteps.{open_pending, pending_open}
 use Rattle.slot_machine.proofs.bound_laws.EveryFront.{every_front_is_within}
 use Rattle.plan_model.proofs.plan_meaning.FailingLaws.{each_is_plan_or_fails}
 use Rattle.plan_model.specs.declared.causes.FailWhy.{FailWhy}
-use Rattle.plan_proof.specs.Headline.{HeadlineBy, HeadlineAtBoundBy, OnePlanForEach, IsFaithfulBy, LosesNothingBy}
+use Rattle.plan_proof.specs.Headline.{SpellingForm, HeadlineBy, HeadlineAtBoundBy, OnePlanForEach, IsFaithfulBy, LosesNothingBy}
+use Rattle.stack_proof.specs.OneTree.{OnePlanForEachTree}
 use Rattle.plan_proof.proofs.texts.SamePlans.{spelled-plans}
-use Rattle.first_slots.specs.LowestSpelling.{SpellingBy}
-use Rattle.first_slots.proofs.Headlines.{headline_by-rule, at_bound_by-rule}
+use Rattle.command_words.specs.declared.form.PrintedForm.TheVariants.{Stack}
+use Rattle.htn_cli.specs.PrintedForms.{SpellingAs}
 use Rattle.decode_answers.specs.DecodeLaws.{ValuesAreDecodedAlike}
 use Rattle.encode_answers.specs.EncodeLaws.{ValuesAreEncodedAlike}
 use Rattle.made_transport.specs.Made.{made_domain}
@@ -72,8 +72,8 @@ use Rattle.htn_cli.specs.declared.refusal.Refusal.{Refusal}
 use Rattle.htn_cli.specs.declared.refusal.Refusal.TheVariants as refused
 use Rattle.htn_cli.proofs.Endings.{asked_left, asked_done, never_done}
 use Rattle.htn_cli.proofs.Validations.{sound_apart}
-use Rattle.htn_cli.proofs.Rules.{one_plan_by}
-use Rattle.htn_cli.proofs.EachProblem.{slots_given, slots_computed, bound_at_each, cycle_of_each, faithful_of_each}
+use Rattle.htn_cli.proofs.ByForm.{headline, at_bound, one_plan, one_plan_for_tree}
+use Rattle.htn_cli.proofs.EachProblem.{slots_given, slots_computed, bound_at_each, cycle_of_each, unordered_of_each, faithful_of_each}
 use Rattle.htn_cli.proofs.LawsUsed.{LawsUsed}
 use Rattle.htn_cli.proofs.MadeTold.{keeps_made, nothing_made}
 use Rattle.htn_cli.proofs.PruneTold.{keeps_pruned, unsolved_here}
@@ -87,9 +87,9 @@ module _ (h : Hddl) (checks : Checks) (c : Compiled) (compiled : IsCompiled h ch
   within_bound Lifted n bound tree order is = every_front_is_within h checks c compiled n bound tree order is.finished.front
   within_bound Ground n (few, bound) tree order is = solutions_are_within h checks c compiled n bound tree order is
 
-  loses_nothing_at : (level : Level) (n : ℕ) → IsBoundAt level c n → (rule : Slots) (b : ℕ) (domain problem : List ℕ) → n ≤ b → IsFaithfulBy (SpellingBy rule) c b domain problem
-      → LosesNothingBy (SpellingBy rule) c b domain problem
-  loses_nothing_at level n bound rule b domain problem l f tree order is =
+  loses_nothing_at : (level : Level) (n : ℕ) → IsBoundAt level c n → (Spelling : SpellingForm) (b : ℕ) (domain problem : List ℕ) → n ≤ b → IsFaithfulBy Spelling c b domain problem
+      → LosesNothingBy Spelling c b domain problem
+  loses_nothing_at level n bound Spelling b domain problem l f tree order is =
       let front = is.finished.front in
       let w = within_bound level n bound tree order is in
       let (steps, slot, s) = f.spelled tree order front (λ taken rest nodes e a. (let k = w taken rest nodes e a in omega (arith, k, l))) in
@@ -110,20 +110,25 @@ module _ (ground : ValuesHaveOneGroundBound) (request : TranslationRequest) (d p
     printed_problem_is : problem_text written.translated.value ≡ op
     printed_problem_is = sym written.translated.problem_is ∙ problem_is
 
-    headline_here : HeadlineBy (SpellingBy request.rule) d p request.checks slots od op
+    headline_here : HeadlineBy (SpellingAs request.form request.rule) d p request.checks slots od op
     headline_here =
-        subst (λ (z : Type 0). z) (λ i. HeadlineBy (SpellingBy request.rule) d p request.checks slots (printed_domain_is i) (printed_problem_is i))
-        (headline_by-rule d p source.value request.checks c slots request.style written.translated.value source.read.spelled source.read.ordered request.rule written.translated.printed)
+        subst (λ (z : Type 0). z) (λ i. HeadlineBy (SpellingAs request.form request.rule) d p request.checks slots (printed_domain_is i) (printed_problem_is i))
+        (headline d p source.value request.checks c slots request.style written.translated.value source.read.spelled source.read.ordered request.rule request.form written.translated.printed)
 
-    at_bound_here : HeadlineAtBoundBy (SpellingBy request.rule) d p request.checks slots od op
+    at_bound_here : HeadlineAtBoundBy (SpellingAs request.form request.rule) d p request.checks slots od op
     at_bound_here =
-        subst (λ (z : Type 0). z) (λ i. HeadlineAtBoundBy (SpellingBy request.rule) d p request.checks slots (printed_domain_is i) (printed_problem_is i))
-        (at_bound_by-rule d p source.value request.checks c slots request.style written.translated.value source.read.spelled source.read.ordered request.rule written.translated.printed)
+        subst (λ (z : Type 0). z) (λ i. HeadlineAtBoundBy (SpellingAs request.form request.rule) d p request.checks slots (printed_domain_is i) (printed_problem_is i))
+        (at_bound d p source.value request.checks c slots request.style written.translated.value source.read.spelled source.read.ordered request.rule request.form written.translated.printed)
 
-    one_plan_here : request.rule ≡ First → OnePlanForEach (SpellingBy request.rule) d p request.checks slots od op
+    one_plan_here : request.rule ≡ First → OnePlanForEach (SpellingAs request.form request.rule) d p request.checks slots od op
     one_plan_here first =
-        subst (λ (z : Type 0). z) (λ i. OnePlanForEach (SpellingBy request.rule) d p request.checks slots (printed_domain_is i) (printed_problem_is i))
-        (one_plan_by d p source.value request.checks c slots request.style written.translated.value source.read.spelled source.read.ordered request.rule first written.translated.printed)
+        subst (λ (z : Type 0). z) (λ i. OnePlanForEach (SpellingAs request.form request.rule) d p request.checks slots (printed_domain_is i) (printed_problem_is i))
+        (one_plan d p source.value request.checks c slots request.style written.translated.value source.read.spelled source.read.ordered request.rule request.form first written.translated.printed)
+
+    one_tree_here : request.form ≡ Stack → OnePlanForEachTree (SpellingAs request.form request.rule) d p request.checks slots od op
+    one_tree_here stack =
+        subst (λ (z : Type 0). z) (λ i. OnePlanForEachTree (SpellingAs request.form request.rule) d p request.checks slots (printed_domain_is i) (printed_problem_is i))
+        (one_plan_for_tree d p source.value request.checks c slots request.style written.translated.value source.read.spelled source.read.ordered request.rule request.form stack written.translated.printed)
 
     pub keep_here : KeepPlans request d p od op slots
     keep_here = record {
@@ -134,9 +139,10 @@ module _ (ground : ValuesHaveOneGroundBound) (request : TranslationRequest) (d p
       nothing_lost = λ none h k s is. (
           let here = slots_computed request.level c slots request.numeral none written.source.slots_are in
           let there = bound_at_each d p request.checks c source ground request.level slots here h k s is in
-          loses_nothing_at h request.checks k is request.level slots there request.rule slots od op (omega arith) (headline_here h k s is)
+          loses_nothing_at h request.checks k is request.level slots there (SpellingAs request.form request.rule) slots od op (omega arith) (headline_here h k s is)
           );
       one_plan = one_plan_here;
+      one_tree = one_tree_here;
     }
 
     pub keeps : TakesWhole (slots_line slots) out out' → KeepsPlans request d p od op out out'
@@ -155,9 +161,9 @@ module _ (ground : ValuesHaveOneGroundBound) (request : BoundRequest) (d p : Lis
     every_solution = λ h k s is tree order solution. within_bound h request.checks k is request.level n (each h k s is) tree order solution;
     every_front = λ lifted h k s is tree order front.
         every_front_is_within h request.checks k is n (subst (λ l. IsBoundAt l k n) lifted (each h k s is)) tree order front;
-    nothing_lost = λ h k s is slots l rule style value printed.
-        loses_nothing_at h request.checks k is request.level n (each h k s is) rule slots (domain_text value) (problem_text value) l
-        (faithful_of_each d p request.checks c source rule slots style value h k s printed h k s is);
+    nothing_lost = λ h k s is slots l form rule style value printed.
+        loses_nothing_at h request.checks k is request.level n (each h k s is) (SpellingAs form rule) slots (domain_text value) (problem_text value) l
+        (faithful_of_each d p request.checks c source form rule slots style value h k s printed h k s is);
   }
 
 -- A list that was called a plan, or none.
@@ -185,8 +191,10 @@ module _ (pd pp plan : List ℕ) where
 
 -- What was found of the texts of a request.
 pub finding_here : (laws : LawsUsed) (request : Request) (texts : List (List ℕ)) (f : Finding) → Refuses request texts (refused.Finding f) → (err err' : SinkState) → Told (line_of (refused.Finding f)) err err' → TellsFinding request texts err err'
+finding_here laws (to_translate r) (d ∷ p ∷ []) (finding.NotTotallyOrdered word) (stack, (c, source, named)) err err' line =
+    inl (stack, unordered_of_each d p r.checks c source word named err err' line)
 finding_here laws (to_translate r) (d ∷ p ∷ []) (finding.NotTailRecursive words) (none, (c, source, named)) err err' line =
-    cycle_of_each d p r.checks c source laws.ground r.level words named err err' line
+    inr (cycle_of_each d p r.checks c source laws.ground r.level words named err err' line)
 finding_here laws (to_bound r) (d ∷ p ∷ []) (finding.NotTailRecursive words) (c, source, named) err err' line =
     cycle_of_each d p r.checks c source laws.ground r.level words named err err' line
 finding_here laws (to_decode r) (d ∷ p ∷ plan ∷ []) (finding.NotTailRecursive words) (none, (c, steps, spelled, named)) err err' line =

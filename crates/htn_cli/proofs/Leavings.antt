@@ -30,7 +30,10 @@ use Rattle.htn_cli.specs.Problem.{SpellProblem}
 use Rattle.htn_cli.specs.Requests.{inputs_of, names_told, slots_given, most_by, most_slots_of, IsWithin}
 use Rattle.htn_cli.specs.Sent.{TakesWhole}
 use Rattle.htn_cli.specs.Slots.{RefusesSlots}
-use Rattle.htn_cli.specs.Stops.{GivesTexts, StopsReading, StopsFault, StopsTexts, StopsPlan, StopsBound, IsGiven, StopsGiven, IsChosen, StopsChosen, StopsPrinted, IsWant, StopsDelivery, StopsOutput}
+use Rattle.stack_encoding.specs.TotalOrder.{IsFirstUnordered}
+use Rattle.command_words.specs.declared.form.PrintedForm.TheVariants.{Stack}
+use Rattle.htn_cli.specs.PrintedForms.{IsOrderedFor}
+use Rattle.htn_cli.specs.Stops.{GivesTexts, StopsReading, StopsFault, StopsTexts, StopsPlan, StopsBound, StopsOrder, TellsUnorderedAt, IsGiven, StopsGiven, IsChosen, StopsChosen, StopsPrinted, IsWant, StopsDelivery, StopsOutput}
 use Rattle.htn_cli.specs.Texts.{texts_of}
 use Rattle.htn_cli.specs.Translation.{AreSlotsOf, IsForSlots, AreWritten, GivesTranslation, texts_for}
 use Rattle.htn_cli.specs.declared.output.Output.{Output as Made}
@@ -183,6 +186,12 @@ pub written_texts : (names : Names) (written : Option Written) (w : Written) →
 written_texts names written w od op e =
     ap texts_by e ∙ (λ i. record { name = od i; bytes = w.texts.domain } ∷ record { name = op i; bytes = w.texts.problem } ∷ [])
 
+-- A method that is not totally ordered.
+pub stops_order : (c : Compiled) (m : ℕ) (refusal : Refusal) → IsFirstUnordered c m → TellsUnorderedAt c m refusal → StopsOrder Stack c refusal
+stops_order c m (refused.Finding (finding.NotTotallyOrdered word)) first is = (refl, (m, first, is))
+stops_order c m (refused.Failure failure.Memory) first is = tt
+stops_order c m _ first is = absurd is
+
 -- A translation.
 module _ (r : TranslationRequest) where
   pub is_within : (g : Option ℕ) → IsGiven (most_by r.rule) r.numeral g → IsWithin (to_translate r)
@@ -191,20 +200,20 @@ module _ (r : TranslationRequest) where
   pub given_stops : (old : FilesState) (refusal : Refusal) → StopsGiven (most_by r.rule) r.numeral refusal → StopsOutput (to_translate r) old old refusal
   given_stops old refusal stops = given_refused (to_translate r) old r.numeral refl refusal stops
 
-  module _ (d p : List ℕ) (c : Compiled) (spelled : SpellProblem d p r.checks c) (g : Option ℕ) (is : IsGiven (most_by r.rule) r.numeral g) where
+  module _ (d p : List ℕ) (c : Compiled) (spelled : SpellProblem d p r.checks c) (ordered : IsOrderedFor r.form c) (g : Option ℕ) (is : IsGiven (most_by r.rule) r.numeral g) where
     abbrev Stopped : Refusal → Type 0
     Stopped = StopsTexts (to_translate r) (d ∷ p ∷ [])
 
     bound_stops : r.numeral ≡ None → (refusal : Refusal) → StopsBound r.level c refusal → Stopped refusal
-    bound_stops none (refused.Finding (finding.NotTailRecursive words)) stops = inr (none, (c, spelled, stops))
-    bound_stops none (refused.Limit limit.Ground) stops = inr (none, (c, spelled, stops))
-    bound_stops none (refused.Limit limit.Bound) (n, bound, past) = inr (none, (n, (c, spelled, bound), past))
+    bound_stops none (refused.Finding (finding.NotTailRecursive words)) stops = inr ((none, (c, spelled, ordered)), (c, spelled, stops))
+    bound_stops none (refused.Limit limit.Ground) stops = inr ((none, (c, spelled, ordered)), (c, spelled, stops))
+    bound_stops none (refused.Limit limit.Bound) (n, bound, past) = inr ((none, (c, spelled, ordered)), (n, (c, spelled, bound), past))
     bound_stops none (refused.Failure failure.Memory) stops = tt
     bound_stops none _ stops = absurd stops
 
     computed_past : r.numeral ≡ None → (n : ℕ) → IsBoundAt r.level c n → (refusal : Refusal) → RefusesSlots (most_by r.rule) n refusal → Stopped refusal
-    computed_past none n bound (refused.Limit limit.Bound) stops = inr (none, (n, (c, spelled, bound), stops))
-    computed_past none n bound (refused.Limit (limit.Slots m)) stops = inr (none, (n, (c, spelled, bound), stops))
+    computed_past none n bound (refused.Limit limit.Bound) stops = inr ((none, (c, spelled, ordered)), (n, (c, spelled, bound), stops))
+    computed_past none n bound (refused.Limit (limit.Slots m)) stops = inr ((none, (c, spelled, ordered)), (n, (c, spelled, bound), stops))
     computed_past none n bound _ stops = absurd stops
 
     pub chosen_stops : (refusal : Refusal) → StopsChosen (most_by r.rule) r.level c g refusal → Stopped refusal
@@ -222,11 +231,11 @@ module _ (r : TranslationRequest) where
         where
           go : (o : Option Word) (g : Option ℕ) → IsGiven (most_by r.rule) o g → IsChosen (most_by r.rule) r.level c g slots → r.numeral ≡ o → IsForSlots r d p c slots
           go None None is (n, bound, are) e =
-              record { problem_is = spelled; slots_are = subst (λ z. AreSlotsOf r.level c z slots) (sym e) (subst (IsBoundAt r.level c) (sym are.same) bound); some = are.some; few = are.few }
+              record { problem_is = spelled; ordered = ordered; slots_are = subst (λ z. AreSlotsOf r.level c z slots) (sym e) (subst (IsBoundAt r.level c) (sym are.same) bound); some = are.some; few = are.few }
           go None (Some g) is chosen e = absurd is
           go (Some word) None is chosen e = absurd is
           go (Some word) (Some g) is chosen e =
-              record { problem_is = spelled; slots_are = subst (λ z. AreSlotsOf r.level c z slots) (sym e) (chosen ∙ is.same); some = subst (λ z. 1 ≤ z) (sym chosen) is.some; few = subst (λ z. z ≤ most_by r.rule) (sym chosen) is.few }
+              record { problem_is = spelled; ordered = ordered; slots_are = subst (λ z. AreSlotsOf r.level c z slots) (sym e) (chosen ∙ is.same); some = subst (λ z. 1 ≤ z) (sym chosen) is.some; few = subst (λ z. z ≤ most_by r.rule) (sym chosen) is.few }
 
       pub print_stops : (refusal : Refusal) → StopsPrinted c (manner_of r slots) refusal → Stopped refusal
       print_stops (refused.Limit (limit.Output n)) stops = inr (c, slots, for_slots, stops)
@@ -238,7 +247,7 @@ module _ (r : TranslationRequest) where
       are_written w whole = record {
         compiled = c;
         source = for_slots;
-        translated = translated for_slots.problem_is.value c (manner_of r slots) (texts_of w.texts) for_slots.problem_is.read.sound for_slots.problem_is.compiled_is for_slots.some whole;
+        translated = translated for_slots.problem_is.value c (manner_of r slots) (texts_of w.texts) for_slots.problem_is.read.sound for_slots.problem_is.compiled_is for_slots.ordered for_slots.some whole;
       }
 
       pub gives_translation : (made : Made) → IsMadeWith r c slots made → GivesTranslation r d p (output_of made)
@@ -255,11 +264,17 @@ module _ (r : TranslationRequest) where
 
   -- what was made of a compiled problem
   pub gives_made_for : (d p : List ℕ) (c : Compiled) → SpellProblem d p r.checks c → (g : Option ℕ) → IsGiven (most_by r.rule) r.numeral g → (made : Made) → IsMadeFor r c g made → GivesTranslation r d p (output_of made)
-  gives_made_for d p c spelled g is made (slots, chosen, made_is) = gives_translation d p c spelled g is slots chosen made made_is
+  gives_made_for d p c spelled g is made (ordered, (slots, chosen, made_is)) = gives_translation d p c spelled ordered g is slots chosen made made_is
+
+  order_stops : (d p : List ℕ) (c : Compiled) → SpellProblem d p r.checks c → (refusal : Refusal) → StopsOrder r.form c refusal → StopsTexts (to_translate r) (d ∷ p ∷ []) refusal
+  order_stops d p c spelled (refused.Finding (finding.NotTotallyOrdered word)) (stack, named) = inr (stack, (c, spelled, named))
+  order_stops d p c spelled (refused.Failure failure.Memory) stops = tt
+  order_stops d p c spelled _ stops = absurd stops
 
   pub stops_made_for : (d p : List ℕ) (c : Compiled) → SpellProblem d p r.checks c → (g : Option ℕ) → IsGiven (most_by r.rule) r.numeral g → (refusal : Refusal) → StopsMadeFor r c g refusal → StopsTexts (to_translate r) (d ∷ p ∷ []) refusal
-  stops_made_for d p c spelled g is refusal (inl stops) = chosen_stops d p c spelled g is refusal stops
-  stops_made_for d p c spelled g is refusal (inr (slots, chosen, stops)) = print_stops d p c spelled g is slots chosen refusal stops
+  stops_made_for d p c spelled g is refusal (inl stops) = order_stops d p c spelled refusal stops
+  stops_made_for d p c spelled g is refusal (inr (ordered, inl stops)) = chosen_stops d p c spelled ordered g is refusal stops
+  stops_made_for d p c spelled g is refusal (inr (ordered, inr (slots, chosen, stops))) = print_stops d p c spelled ordered g is slots chosen refusal stops
 
   pub translation_fits : (d p : List ℕ) (output : Output) → GivesTranslation r d p output → length output.told ≤ longest_output
   translation_fits d p output (texts, slots, written, e) =

@@ -4,6 +4,8 @@ pub mod Texts
 pub mod FaultTexts
 pub mod Faulty
 pub mod InputsRead
+pub mod OneProblem
+pub mod ByForm
 pub mod Printed
 pub mod Puts
 pub mod Leavings
@@ -27,7 +29,6 @@ pub mod CallsMade
 pub mod examples
 pub mod OneInput
 pub mod OneFault
-pub mod OneProblem
 pub mod OneSlots
 pub mod OneTranslation
 pub mod OneBound

@@ -114,7 +114,8 @@ module _ (laws : LawsUsed) (request : MakeRequest) where
 
   -- nothing was made
   by_cycle : (f : Finding) → RefusesTranslation t made_domain p (refused.Finding f) → (err err' : SinkState) → Told (line_of (refused.Finding f)) err err' → TellsCycle Lifted Leaf made_domain p err err'
-  by_cycle (finding.NotTailRecursive words) (none, (c, source, named)) err err' line = cycle_of_each made_domain p Leaf c source laws.ground Lifted words named err err' line
+  by_cycle (finding.NotTailRecursive words) ((none, some), (c, source, named)) err err' line = cycle_of_each made_domain p Leaf c source laws.ground Lifted words named err err' line
+  by_cycle (finding.NotTotallyOrdered word) (stack, x) err err' line = absurd (cc)
   by_cycle _ x err err' line = absurd x
 
   pub nothing_made : (f : Finding) → RefusesMake request (refused.Finding f) → (err err' : SinkState) → Told (line_of (refused.Finding f)) err err' → TellsNothingMade request err err'

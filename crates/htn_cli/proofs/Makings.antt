@@ -114,7 +114,7 @@ module _ (r : MakeRequest) where
     Stopped = StopsTexts (to_make r) []
 
     source : (bound : ℕ) → IsComputed most_slots Lifted c bound → IsAtBound r c bound
-    source bound computed = for_slots t made_domain p c spelled None tt bound computed
+    source bound computed = for_slots t made_domain p c spelled tt None tt bound computed
 
     pub gives_make : (made : Made) → IsMadeAtBound r c (plan_of r) made → GivesMake r (output_of made)
     gives_make made (bound, computed, (actions, width, steps, has, counted, are, line)) = go made.written are refl
@@ -122,7 +122,7 @@ module _ (r : MakeRequest) where
         go : (o : Option Written) → AreMadeWith t c bound o → made.written ≡ o → GivesMake r (output_of made)
         go None are e = absurd are
         go (Some w) (od, op, whole) e =
-            let written = are_written t made_domain p c spelled None tt bound computed w whole in
+            let written = are_written t made_domain p c spelled tt None tt bound computed w whole in
             let value = written.translated.value in (
               texts_of w.texts,
               actions,
@@ -138,14 +138,14 @@ module _ (r : MakeRequest) where
             )
 
     bound_stops : (refusal : Refusal) → StopsBound Lifted c refusal → Stopped refusal
-    bound_stops (refused.Finding (finding.NotTailRecursive words)) stops = inr (inl (refl, (c, spelled, stops)))
-    bound_stops (refused.Limit limit.Bound) (n, bound, past) = inr (refl, (n, (c, spelled, bound), past))
+    bound_stops (refused.Finding (finding.NotTailRecursive words)) stops = inr (inl ((refl, (c, spelled, tt)), (c, spelled, stops)))
+    bound_stops (refused.Limit limit.Bound) (n, bound, past) = inr ((refl, (c, spelled, tt)), (n, (c, spelled, bound), past))
     bound_stops (refused.Failure failure.Memory) stops = tt
     bound_stops _ stops = absurd stops
 
     computed_past : (n : ℕ) → IsBoundAt Lifted c n → (refusal : Refusal) → RefusesSlots most_slots n refusal → Stopped refusal
-    computed_past n bound (refused.Limit limit.Bound) stops = inr (refl, (n, (c, spelled, bound), stops))
-    computed_past n bound (refused.Limit (limit.Slots m)) stops = inr (inl (refl, (n, (c, spelled, bound), stops)))
+    computed_past n bound (refused.Limit limit.Bound) stops = inr ((refl, (c, spelled, tt)), (n, (c, spelled, bound), stops))
+    computed_past n bound (refused.Limit (limit.Slots m)) stops = inr (inl ((refl, (c, spelled, tt)), (n, (c, spelled, bound), stops)))
     computed_past n bound _ stops = absurd stops
 
     counting_stops : (bound : ℕ) → IsComputed most_slots Lifted c bound → (refusal : Refusal) → StopsCounting r c (plan_of r) refusal → Stopped refusal

@@ -150,7 +150,7 @@ module _ (once : EachIsEncodedOnce) (alike : ValuesAreEncodedAlike) (spelled_onc
 
   module _ (c : Compiled) (bound : ℕ) (source : IsAtBound request c bound) where
     abbrev here : Read
-    here = (c, source.problem_is)
+    here = (c, source.problem_is, source.ordered)
 
     comes_to : (a : Answer) → Plans here bound a → (x : Read) × Comes x a
     comes_to a plans = (here, within bound a source.slots_are source.some source.few plans)
@@ -170,7 +170,8 @@ module _ (once : EachIsEncodedOnce) (alike : ValuesAreEncodedAlike) (spelled_onc
     wide n has past = stops_at (TooWide n) tt (λ most. (has, refl, past))
 
   by_cycle : (f : Finding) → RefusesTranslation t made_domain p (refused.Finding f) → (x : Read) × Comes x (refuses (refused.Finding f))
-  by_cycle (finding.NotTailRecursive words) (e, (c, source, named)) = ((c, source), cycle words e named)
+  by_cycle (finding.NotTailRecursive words) ((e, some), (c, source, named)) = ((c, source, tt), cycle words e named)
+  by_cycle (finding.NotTotallyOrdered word) (stack, x) = absurd (cc)
   by_cycle _ x = absurd x
 
   -- an output, whole or not
@@ -183,8 +184,8 @@ module _ (once : EachIsEncodedOnce) (alike : ValuesAreEncodedAlike) (spelled_onc
   declines : (refusal : Refusal) → RefusesMake request refusal → (x : Read) × Comes x (refuses refusal)
   declines (refused.Finding f) (inl x) = by_cycle f x
   declines (refused.Finding f) (inr (c, bound, source, is)) = found c bound source f is
-  declines (refused.Limit limit.Bound) (e, (n, (c, source, bound), past)) = ((c, source), out n (refused.Limit limit.Bound) e bound past)
-  declines (refused.Limit (limit.Slots m)) (inl (e, (n, (c, source, bound), past))) = ((c, source), out n (refused.Limit (limit.Slots m)) e bound past)
+  declines (refused.Limit limit.Bound) ((e, some), (n, (c, source, bound), past)) = ((c, source, tt), out n (refused.Limit limit.Bound) e bound past)
+  declines (refused.Limit (limit.Slots m)) (inl ((e, some), (n, (c, source, bound), past))) = ((c, source, tt), out n (refused.Limit (limit.Slots m)) e bound past)
   declines (refused.Limit (limit.Slots m)) (inr (c, bound, source, has, past)) = wide c bound source m has past
   declines (refused.Limit (limit.Output n)) (inl (c, bound, width, steps, source, is, l)) =
       comes_to c bound source (refuses (refused.Limit (limit.Output n))) (counted width steps is (refuses (refused.Limit (limit.Output n))) (too_long n l))
@@ -200,4 +201,4 @@ module _ (once : EachIsEncodedOnce) (alike : ValuesAreEncodedAlike) (spelled_onc
   pub one_made : (a b : Answer) → MakeComes request a → MakeComes request b → TellTheSame a b
   one_made a b is also =
       let x = comes a is in let y = comes b also in
-      one_follows most_slots (omega arith) ground Lifted made_domain p Leaf None x.0 y.0 (Plans x.0) (Plans y.0) (one_plan x.0 y.0) a b x.1 y.1
+      one_follows most_slots (omega arith) ground Lifted made_domain p Leaf None (x.0.0, x.0.1) (y.0.0, y.0.1) (Plans x.0) (Plans y.0) (one_plan x.0 y.0) a b x.1 y.1

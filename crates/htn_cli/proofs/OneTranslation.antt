@@ -4,12 +4,13 @@ use Rattle.htn_base.specs.Limits.{longest_output}
 use Rattle.plan_model.specs.declared.values.Pddl.{Pddl}
 use Rattle.plan_model.specs.declared.values.Compiled.{Compiled}
 use Rattle.plan_texts.specs.PrintedTexts.{domain_text, problem_text}
-use Rattle.slot_encoding.specs.encoded_texts.FullyEncoded.{IsFullyEncodedBy}
 use Rattle.ground_answers.specs.GroundLaws.{ValuesHaveOneGroundBound}
 use Rattle.command_words.specs.Words.{TranslationRequest}
 use Rattle.htn_cli.specs.Answer.{Output, Answer, refuses, gives}
 use Rattle.htn_cli.specs.OneAnswer.{TellTheSame}
-use Rattle.htn_cli.specs.Problem.{SpellProblem}
+use Rattle.command_words.specs.declared.form.PrintedForm.TheVariants.{Stack}
+use Rattle.htn_cli.specs.PrintedForms.{IsOrderedFor, NamesUnordered}
+use Rattle.htn_cli.specs.Problem.{SpellProblem, AreFor}
 use Rattle.htn_cli.specs.Refusal.{line_of}
 use Rattle.htn_cli.specs.Requests.{most_by}
 use Rattle.htn_cli.specs.Texts.{Texts, IsFirstTooLong, AreTranslated, AreTooLong}
@@ -18,8 +19,9 @@ use Rattle.htn_cli.specs.declared.refusal.Finding.TheVariants as finding
 use Rattle.htn_cli.specs.declared.refusal.Limit.TheVariants as limit
 use Rattle.htn_cli.specs.declared.refusal.Refusal.{Refusal}
 use Rattle.htn_cli.specs.declared.refusal.Refusal.TheVariants as refused
-use Rattle.htn_cli.proofs.Rules.{few_by, fully_of}
-use Rattle.htn_cli.proofs.OneProblem.{texts_same}
+use Rattle.htn_cli.proofs.Rules.{few_by}
+use Rattle.htn_cli.proofs.ByForm.{IsFully, fully as fully_of_form, texts_of_both as both_texts, ordered_too, unordered_not, one_unordered}
+use Rattle.htn_cli.proofs.OneEncoding.{same_answer}
 use Rattle.htn_cli.proofs.OneSlots.{Follows, much, cycle, out, within, one_follows}
 
 pub one_long : (domain problem : List ℕ) (n m : ℕ) → IsFirstTooLong domain problem n → IsFirstTooLong domain problem m → n ≡ m
@@ -38,8 +40,9 @@ TranslationComes request d p (refuses refusal) = RefusesTranslation request d p 
 TranslationComes request d p (gives output) = GivesTranslation request d p output
 
 module _ (request : TranslationRequest) (d p : List ℕ) where
+  -- a problem that is printed in the form of the request
   abbrev pub Source : Type 0
-  Source = (c : Compiled) × SpellProblem d p request.checks c
+  Source = AreFor d p request.checks request.form
 
   -- what is printed with so many slots
   pub data Prints (x : Source) (slots : ℕ) : Answer → Type 0 where
@@ -47,12 +50,12 @@ module _ (request : TranslationRequest) (d p : List ℕ) where
     written : (texts : Texts) (output : Output) → AreTranslated x.1.value x.0 (manner_with request d p slots) texts → output ≡ translation_output request.names texts slots
         → Prints x slots (gives output)
 
-  pub texts_of_both : (x y : Source) (slots : ℕ) (v w : Pddl) → IsFullyEncodedBy request.rule x.0 slots request.style v → IsFullyEncodedBy request.rule y.0 slots request.style w → (domain_text v ≡ domain_text w) × (problem_text v ≡ problem_text w)
-  texts_of_both x y slots v w e f = texts_same d p request.checks x.0 y.0 x.1 y.1 request.rule slots request.style v w e f
+  pub texts_of_both : (x y : Source) (slots : ℕ) (v w : Pddl) → IsFully request.form request.rule x.0 slots request.style v → IsFully request.form request.rule y.0 slots request.style w → (domain_text v ≡ domain_text w) × (problem_text v ≡ problem_text w)
+  texts_of_both x y slots v w e f = both_texts d p request.checks x.0 y.0 x.1 y.1 request.rule slots request.style request.form x.2 y.2 v w e f
 
   -- what is translated is encoded over all its words
-  pub fully : (x : Source) (slots : ℕ) (texts : Texts) (t : AreTranslated x.1.value x.0 (manner_with request d p slots) texts) → IsFullyEncodedBy request.rule x.0 slots request.style t.value
-  fully x slots texts t = fully_of request.rule x.1.value request.checks x.0 slots request.style t.value t.printed t.words
+  pub fully : (x : Source) (slots : ℕ) (texts : Texts) (t : AreTranslated x.1.value x.0 (manner_with request d p slots) texts) → IsFully request.form request.rule x.0 slots request.style t.value
+  fully x slots texts t = fully_of_form request.rule x.1.value request.checks x.0 slots request.style t.value request.form t.printed t.words
 
   pub long_not_written : (x y : Source) (slots n : ℕ) (texts : Texts) → AreTooLong x.0 (manner_with request d p slots) n → AreTranslated y.1.value y.0 (manner_with request d p slots) texts → ⊥
   long_not_written x y slots n texts l t =
@@ -84,26 +87,48 @@ module _ (request : TranslationRequest) (d p : List ℕ) where
   abbrev Comes : Source → Answer → Type 0
   Comes x = Follows (most_by request.rule) request.level request.numeral x.0 (Prints x)
 
-  printed : (c : Compiled) (slots : ℕ) (a : Answer) (source : IsForSlots request d p c slots) → Prints (c, source.problem_is) slots a → (x : Source) × Comes x a
-  printed c slots a source prints = ((c, source.problem_is), within slots a source.slots_are source.some source.few prints)
+  -- what comes of a problem that is printed, or of one whose methods are not all totally ordered
+  data Ends (a : Answer) : Type 0 where
+    follows : (x : Source) → Comes x a → Ends a
+    unordered : (c : Compiled) (word : List ℕ) → request.form ≡ Stack → SpellProblem d p request.checks c → NamesUnordered c word
+        → a ≡ refuses (refused.Finding (finding.NotTotallyOrdered word)) → Ends a
 
-  declines : (refusal : Refusal) → RefusesTranslation request d p refusal → (x : Source) × Comes x (refuses refusal)
-  declines (refused.Finding (finding.NotTailRecursive words)) (e, (c, source, named)) = ((c, source), cycle words e named)
-  declines (refused.Limit limit.Ground) (e, (c, source, past)) = ((c, source), much e past)
-  declines (refused.Limit limit.Bound) (e, (n, (c, source, bound), past)) = ((c, source), out n (refused.Limit limit.Bound) e bound past)
-  declines (refused.Limit (limit.Slots m)) (e, (n, (c, source, bound), past)) = ((c, source), out n (refused.Limit (limit.Slots m)) e bound past)
+  -- what holds of a problem that is printed holds of each with the same texts
+  here : AreFor d p request.checks request.form → (c : Compiled) → SpellProblem d p request.checks c → Source
+  here (k, is, o) c source = (c, source, ordered_too d p request.checks k c is source request.rule 1 request.style request.form o)
+
+  printed : (c : Compiled) (slots : ℕ) (a : Answer) (source : IsForSlots request d p c slots) → Prints (c, source.problem_is, source.ordered) slots a → Ends a
+  printed c slots a source prints = follows (c, source.problem_is, source.ordered) (within slots a source.slots_are source.some source.few prints)
+
+  declines : (refusal : Refusal) → RefusesTranslation request d p refusal → Ends (refuses refusal)
+  declines (refused.Finding (finding.NotTotallyOrdered word)) (stack, (c, source, named)) = unordered c word stack source named refl
+  declines (refused.Finding (finding.NotTailRecursive words)) ((e, some), (c, source, named)) = follows (here some c source) (cycle words e named)
+  declines (refused.Limit limit.Ground) ((e, some), (c, source, past)) = follows (here some c source) (much e past)
+  declines (refused.Limit limit.Bound) ((e, some), (n, (c, source, bound), past)) = follows (here some c source) (out n (refused.Limit limit.Bound) e bound past)
+  declines (refused.Limit (limit.Slots m)) ((e, some), (n, (c, source, bound), past)) = follows (here some c source) (out n (refused.Limit (limit.Slots m)) e bound past)
   declines (refused.Limit (limit.Output n)) (c, slots, source, l) = printed c slots (refuses (refused.Limit (limit.Output n))) source (long n l)
   declines _ x = absurd x
 
-  gives_by : (output : Output) → GivesTranslation request d p output → (x : Source) × Comes x (gives output)
+  gives_by : (output : Output) → GivesTranslation request d p output → Ends (gives output)
   gives_by output (texts, slots, w, e) = printed w.compiled slots (gives output) w.source (written texts output w.translated e)
 
-  comes : (a : Answer) → TranslationComes request d p a → (x : Source) × Comes x a
+  comes : (a : Answer) → TranslationComes request d p a → Ends a
   comes (refuses refusal) is = declines refusal is
   comes (gives output) is = gives_by output is
 
+  -- no problem is both
+  not_ordered : (x : Source) (c : Compiled) (word : List ℕ) → request.form ≡ Stack → SpellProblem d p request.checks c → NamesUnordered c word → ⊥
+  not_ordered x c word stack source named =
+      unordered_not c word named (subst (λ z. IsOrderedFor z c) stack (ordered_too d p request.checks x.0 c x.1 source request.rule 1 request.style request.form x.2))
+
   pub one_translated : ValuesHaveOneGroundBound → (a b : Answer) → TranslationComes request d p a → TranslationComes request d p b
       → TellTheSame a b
-  one_translated alike a b is also =
-      let x = comes a is in let y = comes b also in
-      one_follows (most_by request.rule) (few_by request.rule) alike request.level d p request.checks request.numeral x.0 y.0 (Prints x.0) (Prints y.0) (λ slots some few. same_prints x.0 y.0 slots) a b x.1 y.1
+  one_translated alike a b is also = go (comes a is) (comes b also)
+    where
+      go : Ends a → Ends b → TellTheSame a b
+      go (follows x one) (follows y other) =
+          one_follows (most_by request.rule) (few_by request.rule) alike request.level d p request.checks request.numeral (x.0, x.1) (y.0, y.1) (Prints x) (Prints y) (λ slots some few. same_prints x y slots) a b one other
+      go (follows x one) (unordered c word stack source named e) = absurd (not_ordered x c word stack source named)
+      go (unordered c word stack source named e) (follows y other) = absurd (not_ordered y c word stack source named)
+      go (unordered c word stack source named e) (unordered k more also other is f) =
+          same_answer a b (e ∙ ap (λ z. refuses (refused.Finding (finding.NotTotallyOrdered z))) (one_unordered d p request.checks c k source other word more named is) ∙ sym f)

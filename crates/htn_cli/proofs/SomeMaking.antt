@@ -95,13 +95,13 @@ module _ (value : FaultlessHddlHasAValue) (somehow : EachIsEncodedSomehow) (requ
         by_text text x
 
   by_number : (c : Compiled) (is : SpellProblem made_domain p Leaf c) (n : ℕ) → IsBound c n → (n < 2 ^ 128) ⊎ (2 ^ 128 ≤ n) → (most_slots < n) ⊎ (n ≤ most_slots) → Has
-  by_number c is n b (inr past) many = declined_texts (refused.Limit limit.Bound) (refl, (n, (c, is, b), past))
-  by_number c is n b (inl small) (inl many) = declined_texts (refused.Limit (limit.Slots n)) (inl (refl, (n, (c, is, b), (refl, many, small))))
-  by_number c is n b (inl small) (inr less) = at_bound c n (record { problem_is = is; slots_are = b; some = positive Lifted c n b; few = less })
+  by_number c is n b (inr past) many = declined_texts (refused.Limit limit.Bound) ((refl, (c, is, tt)), (n, (c, is, b), past))
+  by_number c is n b (inl small) (inl many) = declined_texts (refused.Limit (limit.Slots n)) (inl ((refl, (c, is, tt)), (n, (c, is, b), (refl, many, small))))
+  by_number c is n b (inl small) (inr less) = at_bound c n (record { problem_is = is; ordered = tt; slots_are = b; some = positive Lifted c n b; few = less })
 
   by_problem : (x : Source) → Bounded value made_domain p domain-short short Leaf Lifted x.0 → Has
   by_problem (c, is) (much_is past) = absurd past
-  by_problem (c, is) (cycle_is words named) = declined_texts (refused.Finding (finding.NotTailRecursive words)) (inl (refl, (c, is, named)))
+  by_problem (c, is) (cycle_is words named) = declined_texts (refused.Finding (finding.NotTailRecursive words)) (inl ((refl, (c, is, tt)), (c, is, named)))
   by_problem (c, is) (bound_is n b) = by_number c is n b (cases_lt n (2 ^ 128)) (cases_lt most_slots n)
 
   by_file : (file code at : ℕ) → IsLeastFault language.Hddl made_domain p file code at → Has

@@ -8,7 +8,8 @@ use Rattle.htn_cli.specs.Answers.{IsAnswer}
 use Rattle.htn_cli.specs.Lines.{slots_line}
 use Rattle.htn_cli.specs.Printing.{AreWhole}
 use Rattle.htn_cli.specs.Requests.{most_by}
-use Rattle.htn_cli.specs.Stops.{IsChosen, StopsChosen, StopsPrinted}
+use Rattle.htn_cli.specs.PrintedForms.{IsOrderedFor}
+use Rattle.htn_cli.specs.Stops.{StopsOrder, IsChosen, StopsChosen, StopsPrinted}
 use Rattle.htn_cli.specs.Texts.{texts_of}
 use Rattle.htn_cli.specs.declared.manner.Manner.{Manner}
 use Rattle.htn_cli.specs.declared.output.Output.{Output as Made}
@@ -49,12 +50,14 @@ module _ (request : TranslationRequest) where
   -- with the number of slots that is given, or else computed
   module _ (compiled : Compiled) (number : Option ℕ) where
     abbrev pub IsMadeFor : Made → Type 0
-    IsMadeFor made = (slots : ℕ) × IsChosen (most_by request.rule) request.level compiled number slots × IsMadeWith compiled slots made
+    IsMadeFor made = IsOrderedFor request.form compiled × ((slots : ℕ) × IsChosen (most_by request.rule) request.level compiled number slots × IsMadeWith compiled slots made)
 
     abbrev pub StopsMadeFor : Refusal → Type 0
     StopsMadeFor refusal =
-        StopsChosen (most_by request.rule) request.level compiled number refusal
-        ⊎ ((slots : ℕ) × IsChosen (most_by request.rule) request.level compiled number slots × StopsPrinted compiled (manner_of slots) refusal)
+        StopsOrder request.form compiled refusal
+        ⊎ (IsOrderedFor request.form compiled
+        × (StopsChosen (most_by request.rule) request.level compiled number refusal
+        ⊎ ((slots : ℕ) × IsChosen (most_by request.rule) request.level compiled number slots × StopsPrinted compiled (manner_of slots) refusal)))
 
 -- what was made is the answer to a request, and nothing was written yet
 pub record GivesOutput (request : Request) (old new : FilesState) (made : Made) : Type 0 where

@@ -20,6 +20,7 @@ use Rattle.htn_cli.specs.Translation.{IsForSlots, AreWritten, RefusesTranslation
 use Rattle.htn_cli.specs.declared.refusal.Limit.TheVariants as limit
 use Rattle.htn_cli.specs.declared.refusal.Refusal.{Refusal}
 use Rattle.htn_cli.specs.declared.refusal.Refusal.TheVariants as refused
+use Rattle.command_words.specs.declared.form.PrintedForm.TheVariants.{Slots}
 use Rattle.command_words.specs.declared.level.Level.TheVariants.{Lifted}
 
 -- so many steps spell the latest schedule of a plan with as many slots as it is wide
@@ -49,6 +50,7 @@ module _ (request : MakeRequest) where
         };
     numeral = None;
     level = Lifted;
+    form = Slots;
     style = Adl;
     checks = Leaf;
     rule = Any;

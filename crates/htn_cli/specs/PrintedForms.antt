@@ -1,6 +1,7 @@
 -- What is printed, by its form: with slots, or as a stack.
 -- Source: this project's.
 use Rattle.std.specs.Prelude.{ℕ, zero, suc, ◌≡◌, List, codes}
+use Rattle.htn_base.specs.Different.{AreDifferent}
 use Rattle.plan_model.specs.declared.options.Checks.{Checks}
 use Rattle.plan_model.specs.declared.options.Slots as rule
 use Rattle.plan_model.specs.declared.options.Style.{Style}
@@ -8,13 +9,12 @@ use Rattle.plan_model.specs.declared.values.Compiled.{Compiled}
 use Rattle.plan_model.specs.declared.values.Hddl.{Hddl}
 use Rattle.plan_model.specs.declared.values.Pddl.{Pddl}
 use Rattle.slot_encoding.specs.FirstFree.{IsEncodedBy, HasWordsBy}
-use Rattle.slot_encoding.specs.Existence.{HasEncodedValueBy}
 use Rattle.slot_encoding.specs.Printed.{IsPrintedBy}
 use Rattle.stack_encoding.specs.TotalOrder.{IsTotallyOrdered, IsFirstUnordered}
 use Rattle.stack_encoding.specs.StackSpelling.{IsStackSpelling}
 use Rattle.stack_encoding.specs.StackValue.{IsStackEncoded}
 use Rattle.stack_encoding.specs.StackWords.{HasStackWords}
-use Rattle.stack_encoding.specs.StackPrinted.{IsPrintedStack, HasStackValue}
+use Rattle.stack_encoding.specs.StackPrinted.{IsPrintedStack}
 use Rattle.bound_calc.specs.stratifier.CycleWords.{method_word}
 use Rattle.plan_proof.specs.Headline.{SpellingForm}
 use Rattle.first_slots.specs.LowestSpelling.{SpellingBy}
@@ -48,9 +48,12 @@ abbrev pub HasWordsAs : PrintedForm → rule.Slots → Compiled → ℕ → List
 HasWordsAs Slots by c b names = HasWordsBy by c b names
 HasWordsAs Stack by c b names = HasStackWords c b names
 
-abbrev pub HasEncodedValueAs : PrintedForm → rule.Slots → Compiled → ℕ → Style → Type 0
-HasEncodedValueAs Slots by c b style = HasEncodedValueBy by c b style
-HasEncodedValueAs Stack by c b style = HasStackValue c b
+-- there is one, over words that differ and that have all words of it
+pub record HasEncodedValueAs (form : PrintedForm) (by : rule.Slots) (c : Compiled) (b : ℕ) (style : Style) : Type 0 where
+  pub value : Pddl
+  pub encoded : IsEncodedAs form by c b style value
+  pub words : HasWordsAs form by c b value.names
+  pub differ : AreDifferent value.names
 
 abbrev pub IsPrintedAs : PrintedForm → rule.Slots → Hddl → Checks → Compiled → ℕ → Style → Pddl → Type 0
 IsPrintedAs Slots by h checks c b style p = IsPrintedBy by h checks c b style p

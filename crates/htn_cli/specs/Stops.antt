@@ -15,6 +15,9 @@ use Rattle.hplan_text.specs.ShownSolutions.{HaveText}
 use Rattle.text_values.specs.PddlValues as pddl
 use Rattle.hddl_reader.specs.declared.sections.Language.TheVariants as language
 use Rattle.bound_calc.specs.NoBound.{NamesCycle}
+use Rattle.command_words.specs.declared.form.PrintedForm.{PrintedForm}
+use Rattle.command_words.specs.declared.form.PrintedForm.TheVariants.{Stack}
+use Rattle.htn_cli.specs.PrintedForms.{NamesUnordered, unordered_word}
 use Rattle.command_words.specs.Names.{Word, AreApart}
 use Rattle.command_words.specs.Bounds.{IsNumeral, IsCount}
 use Rattle.command_words.specs.Words.{Request, translation_of, decode_of, encode_of, make_of, prune_of, number_of}
@@ -101,6 +104,18 @@ StopsPlan names domain problem plan refusal = StopsFault names (IsLeastWithPlan 
 abbrev pub StopsFor : List Word → Pddl → List ℕ → Refusal → Type 0
 StopsFor names value plan refusal = (domain problem : List ℕ)
     → pddl.IsValueOf domain problem value → StopsPlan names domain problem plan refusal
+
+-- a method that is not totally ordered, where this form takes no such problem; or memory ran out
+abbrev pub StopsOrder : PrintedForm → Compiled → Refusal → Type 0
+StopsOrder form compiled (refused.Finding (finding.NotTotallyOrdered word)) = (form ≡ Stack) × NamesUnordered compiled word
+StopsOrder form compiled (refused.Failure failure.Memory) = Unit {0}
+StopsOrder form compiled _ = ⊥
+
+-- the refusal of a problem with this first method that is not totally ordered; or memory ran out
+abbrev pub TellsUnorderedAt : Compiled → ℕ → Refusal → Type 0
+TellsUnorderedAt compiled m (refused.Finding (finding.NotTotallyOrdered word)) = word ≡ unordered_word compiled m
+TellsUnorderedAt compiled m (refused.Failure failure.Memory) = Unit {0}
+TellsUnorderedAt compiled m _ = ⊥
 
 -- a bound that was not computed
 abbrev pub StopsBound : Level → Compiled → Refusal → Type 0

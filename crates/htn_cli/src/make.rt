@@ -18,7 +18,7 @@ use crate::output::{Counts, Output, Written, summary_told};
 use crate::problem::compiled_from;
 use crate::refusal::{Failure, Finding, Limit, Refusal};
 use crate::slots::slots_for;
-use command_words::{Level, Making, count_of};
+use command_words::{Level, Making, PrintedForm, count_of};
 use hplan_text::HPlan;
 use htn_base::Memory;
 use made_transport::{Made, made};
@@ -164,6 +164,7 @@ fn output_with<'a>(
 {
     let manner = Manner {
         slots: counts.bound,
+        form: PrintedForm::Slots,
         rule: Slots::Any,
         style: Style::Adl,
         checks: Checks::Leaf,

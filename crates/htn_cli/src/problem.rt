@@ -5,17 +5,19 @@ ghost use Rattle.hddl_reader.specs.declared.sections.Language.TheVariants as lan
 ghost use Rattle.text_values.specs.TextFaults.{IsLeastFault};
 ghost use Rattle.text_values.specs.Values.{IsValueOf};
 ghost use Rattle.htn_cli.specs.Levels.{IsBoundAt};
+ghost use Rattle.htn_cli.specs.PrintedForms.{IsOrderedFor, unordered_word};
 ghost use Rattle.htn_cli.specs.Problem.{SpellProblem};
-ghost use Rattle.htn_cli.specs.Stops.{StopsBound, StopsFault};
+ghost use Rattle.htn_cli.specs.Stops.{StopsBound, StopsFault, StopsOrder, TellsUnorderedAt};
 
 use crate::faults::{Place, refusal_for};
 use crate::refusal::{Failure, Finding, Limit, Refusal};
 use bound_calc::method_precs::compile;
 use bound_calc::{NoBound, problem_bound};
-use command_words::Level;
+use command_words::{Level, PrintedForm};
 use ground_bound::{GroundError, ground_bound, ground_cycle_words};
-use htn_base::{Fault, Memory};
+use htn_base::{Fault, Memory, Text};
 use plan_model::{Checks, Compiled, Hddl};
+use stack_encoder::untotal;
 use std::alloc::Global;
 use text_forms::sexpr_text::ReadError;
 use text_values::hddl_of;
@@ -76,6 +78,51 @@ fn place_of<'a>(fault: Fault, d: &'a str, p: &'a str) -> Place<'a>
         _ => p,
     };
     Place { name, at: fault.at }
+}
+
+/// Tells whether a compiled problem is printed in this form: as a stack only where all its methods are totally ordered.
+pub(crate) fn ordered_for<'a>(
+    alloc: Global,
+    compiled: &Compiled,
+    form: PrintedForm,
+) -> Result<(), Refusal<'a>>
+    requires soundly { IsSoundlyCompiled compiled.now }
+    ensures ordered { IfOk result (λ u. IsOrderedFor form compiled.now) }
+    ensures refused { IfErr result (StopsOrder form compiled.now) }
+{
+    match form {
+        PrintedForm::Slots => Ok(()),
+        PrintedForm::Stack => match untotal(compiled) {
+            None => Ok(()),
+            Some(method) => Err(unordered(alloc, compiled, method)),
+        },
+    }
+}
+
+/// The refusal of a problem with this first method that is not totally ordered.
+fn unordered<'a>(alloc: Global, compiled: &Compiled, method: u32) -> Refusal<'a>
+    ensures { TellsUnorderedAt compiled.now method result }
+{
+    match Text::from_slice(alloc, unordered_word(compiled, method)) {
+        Ok(word) => Refusal::Finding(Finding::NotTotallyOrdered(word)),
+        Err(Memory) => Refusal::Failure(Failure::Memory),
+    }
+}
+
+/// The word of a method that is not totally ordered; the top method is number 0, and has no name in the problem.
+fn unordered_word(compiled: &Compiled, method: u32) -> &[u8]
+    ensures { result.now ≡ unordered_word compiled.now method }
+{
+    if method == 0 {
+        return b"htn_start";
+    }
+    match compiled.methods.get(method as usize) {
+        Some(plan) => match compiled.hddl.names.text(plan.schema.name) {
+            Some(word) => word,
+            None => b"",
+        },
+        None => b"",
+    }
 }
 
 /// The bound of a compiled problem at a level.

@@ -15,7 +15,7 @@ ghost use Rattle.htn_cli.specs.Translation.{GivesTranslation};
 use crate::building::printed;
 use crate::manner::Manner;
 use crate::output::{Output, Written, slots_told};
-use crate::problem::compiled_from;
+use crate::problem::{compiled_from, ordered_for};
 use crate::reading::read_two;
 use crate::refusal::Refusal;
 use crate::slots::{given_slots, slots_for};
@@ -92,6 +92,7 @@ fn output_for<'a>(
     ensures differ { IfOk result NamesDiffer }
     ensures refused { IfErr result (StopsMadeFor (translation_of asked.now) compiled.now given) }
 {
+    ordered_for(alloc, compiled, asked.form)?;
     let slots = slots_for(alloc, compiled, given, asked.level, asked.rule)?;
     output_with(alloc, compiled, asked, slots)
 }
@@ -112,6 +113,7 @@ fn output_with<'a>(
 {
     let manner = Manner {
         slots,
+        form: asked.form,
         rule: asked.rule,
         style: asked.style,
         checks: asked.checks,

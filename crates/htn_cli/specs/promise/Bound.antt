@@ -12,9 +12,9 @@ use Rattle.plan_model.specs.task_networks.Pending.{IsWithin}
 use Rattle.plan_model.specs.plan_meaning.Network.{network}
 use Rattle.plan_model.specs.plan_meaning.Solution.{top_work, IsSolution}
 use Rattle.plan_texts.specs.PrintedTexts.{domain_text, problem_text}
-use Rattle.slot_encoding.specs.Printed.{IsPrintedBy}
 use Rattle.plan_proof.specs.Headline.{LosesNothingBy}
-use Rattle.first_slots.specs.LowestSpelling.{SpellingBy}
+use Rattle.command_words.specs.declared.form.PrintedForm.{PrintedForm}
+use Rattle.htn_cli.specs.PrintedForms.{SpellingAs, IsPrintedAs}
 use Rattle.command_words.specs.Names.{Word}
 use Rattle.command_words.specs.Words.{BoundRequest, AsksBound}
 use Rattle.htn_cli.specs.Told.{AreToldToRead}
@@ -35,9 +35,9 @@ pub record TellsBound (request : BoundRequest) (d p : List ℕ) (out out' : Sink
   -- and of the schemas no front, executable or not
   pub every_front : request.level ≡ Lifted → ForEach d p request.checks (λ h c. (tree : Tree (network c)) (order : List Address)
       → IsFront (network c) (top_work c) tree order → IsWithin (network c) bound tree order)
-  pub nothing_lost : ForEach d p request.checks (λ h c. (slots : ℕ) → bound ≤ slots → (rule : Slots) (style : Style) (value : Pddl)
-      → IsPrintedBy rule h request.checks c slots style value
-      → LosesNothingBy (SpellingBy rule) c slots (domain_text value) (problem_text value))
+  pub nothing_lost : ForEach d p request.checks (λ h c. (slots : ℕ) → bound ≤ slots → (form : PrintedForm) (rule : Slots) (style : Style) (value : Pddl)
+      → IsPrintedAs form rule h request.checks c slots style value
+      → LosesNothingBy (SpellingAs form rule) c slots (domain_text value) (problem_text value))
 
 module _ (words : List Word) (files : FilesState) (out out' : SinkState) where
   abbrev pub HasBound : Type 0

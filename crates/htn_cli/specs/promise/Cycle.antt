@@ -1,4 +1,4 @@
--- What is promised of a cycle that was told.
+-- What is promised of a cycle that was told, or of a method.
 -- Source: this project's.
 use Rattle.std.specs.Prelude.{ℕ, List, ◌∷◌, ◌++◌, codes}
 use Rattle.outside_io.specs.Sink.{SinkState}
@@ -14,7 +14,12 @@ use Rattle.ground_bound.specs.GroundBound.{IsGroundCycle}
 use Rattle.ground_bound.specs.GroundCycleWords.{ground_cycle_words}
 use Rattle.command_words.specs.declared.level.Level.{Level}
 use Rattle.command_words.specs.declared.level.Level.TheVariants.{Lifted, Ground}
+use Rattle.stack_encoding.specs.TotalOrder.{IsFirstUnordered}
+use Rattle.htn_cli.specs.PrintedForms.{unordered_word}
+use Rattle.htn_cli.specs.Refusal.{line_of}
 use Rattle.htn_cli.specs.Sent.{Told}
+use Rattle.htn_cli.specs.declared.refusal.Finding.TheVariants as finding
+use Rattle.htn_cli.specs.declared.refusal.Refusal.TheVariants as refused
 use Rattle.htn_cli.specs.promise.Problems.{ForEach}
 
 -- the line that refuses a problem with this bad cycle in what is reached of it

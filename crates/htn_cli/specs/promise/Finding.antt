@@ -10,6 +10,7 @@ use Rattle.plan_texts.specs.PlanText.{SpellsPlan}
 use Rattle.plan_texts.specs.SpellsPddl.{SpellsPddl}
 use Rattle.plan_model.specs.declared.causes.FailWhy.{FailWhy}
 use Rattle.plan_proof.specs.TextPlans.{IsPlanOf}
+use Rattle.command_words.specs.declared.form.PrintedForm.TheVariants.{Stack}
 use Rattle.command_words.specs.Names.{Word}
 use Rattle.command_words.specs.Words.{Request, to_translate, to_bound, to_decode, to_encode, to_validate, to_make, to_prune, Asks}
 use Rattle.htn_cli.specs.Told.{AreToldToRead}
@@ -18,7 +19,7 @@ use Rattle.htn_cli.specs.Refusal.{line_of}
 use Rattle.htn_cli.specs.Sent.{Told}
 use Rattle.htn_cli.specs.declared.refusal.Finding.TheVariants as finding
 use Rattle.htn_cli.specs.declared.refusal.Refusal.TheVariants as refused
-use Rattle.htn_cli.specs.promise.Cycle.{TellsCycle}
+use Rattle.htn_cli.specs.promise.Cycle.{TellsCycle, TellsUnordered}
 use Rattle.htn_cli.specs.promise.Tree.{TellsNoSolution}
 use Rattle.htn_cli.specs.promise.Steps.{TellsNoSteps}
 use Rattle.htn_cli.specs.promise.Making.{TellsNothingMade}
@@ -39,7 +40,8 @@ pub record TellsFailure (pd pp plan : List ℕ) (err err' : SinkState) : Type 0 
 
 -- what was found, and told, of a request whose inputs have these texts
 abbrev pub TellsFinding : Request → List (List ℕ) → SinkState → SinkState → Type 0
-TellsFinding (to_translate request) (d ∷ p ∷ []) err err' = TellsCycle request.level request.checks d p err err'
+TellsFinding (to_translate request) (d ∷ p ∷ []) err err' =
+    ((request.form ≡ Stack) × TellsUnordered request.checks d p err err') ⊎ TellsCycle request.level request.checks d p err err'
 TellsFinding (to_bound request) (d ∷ p ∷ []) err err' = TellsCycle request.level request.checks d p err err'
 TellsFinding (to_decode request) (d ∷ p ∷ plan ∷ []) err err' =
     ((request.numeral ≡ None) × TellsCycle request.level request.checks d p err err') ⊎ TellsNoSolution request d p plan err err'
