@@ -31,7 +31,7 @@ use Rattle.stack_encoding.proofs.StackOver.{has_stack_value}
 use Rattle.stack_proof.specs.OrderedAlike.{AreOrderedAlike, IsOrderedOrHasOneFirst}
 use Rattle.stack_proof.specs.StackTexts.{AreStackTexts}
 use Rattle.stack_proof.proofs.texts.Headlines as stack
-use Rattle.stack_proof.proofs.texts.Headlines.{stack_printed_too}
+use Rattle.stack_proof.proofs.texts.SamePrinted.{stack_printed_too}
 use Rattle.stack_proof.proofs.texts.Lined as lined
 use Rattle.stack_proof.proofs.texts.Texts as pair
 use Rattle.stack_proof.proofs.texts.Unordered.{ordered_or_one_first}

@@ -41,7 +41,8 @@ use Rattle.htn_cli.specs.promise.Cycle.{TellsCycle, TellsUnordered}
 use Rattle.htn_cli.specs.declared.refusal.Finding.TheVariants as finding
 use Rattle.htn_cli.specs.declared.refusal.Refusal.TheVariants as refused
 use Rattle.htn_cli.proofs.SameCycles.{named_back, words_same}
-use Rattle.htn_cli.proofs.ByForm.{headline, printed_too, ordered_alike-of, word_same}
+use Rattle.htn_cli.proofs.ByForm.{headline, printed_too, word_same}
+use Rattle.stack_proof.proofs.texts.Lined as lined
 use Rattle.htn_cli.proofs.SomeCounts.{countable}
 
 -- the number of slots is the given one, or else the bound
@@ -93,12 +94,12 @@ module _ (d p : List ℕ) (checks : Checks) (c : Compiled) (source : SpellProble
       → TellsUnordered checks d p err err'
   unordered_of_each word (m, first, is) err err' told h k s compiled = (
     m,
-    ((ordered h k s compiled).first m).0 first,
-    subst (λ z. Told (line_of (refused.Finding (finding.NotTotallyOrdered z))) err err') (is ∙ word_same c k (ordered h k s compiled).words m) told,
+    ((ordered h k s compiled).first m).1 first,
+    subst (λ z. Told (line_of (refused.Finding (finding.NotTotallyOrdered z))) err err') (is ∙ sym (word_same k c (ordered h k s compiled).words m)) told,
   )
     where
-      ordered : (h : Hddl) (k : Compiled) → IsHddlOf d p h → IsCompiled h checks k → AreOrderedAlike c k
-      ordered h k s compiled = ordered_alike-of d p source.value h checks c k source.read.spelled s source.read.sound.value source.compiled_is compiled
+      ordered : (h : Hddl) (k : Compiled) → IsHddlOf d p h → IsCompiled h checks k → AreOrderedAlike k c
+      ordered h k s compiled = lined.ordered_alike d p source.value h checks c k source.read.spelled s source.read.sound.value source.compiled_is compiled
 
   -- two texts that are printed for one of them have the meaning of each
   pub faithful_of_each : (form : PrintedForm) (rule : Slots) (slots : ℕ) (style : Style) (value : Pddl) (h : Hddl) (k : Compiled) → IsHddlOf d p h → IsPrintedAs form rule h checks k slots style value
