@@ -12,3 +12,9 @@ pub mod StackActionNames
 -- Their variables: cells, and behind them those of the source.
 pub mod StackScopes
 pub mod StackFronts
+-- What is sound among them.
+pub mod StackMethodParts
+pub mod StackActionsSound
+-- Initial atoms and the goal; all put together.
+pub mod StackBeginning
+pub mod StackIsPrintable
