@@ -1,13 +1,13 @@
 -- Lists put together of several; what a table with all words has, and that it has few numbered ones.
 pub mod Appended
 pub mod KnownParts
+pub mod KnownEach
 pub mod FewCells
 -- The words that are declared: objects, predicates.
 pub mod StackDeclared
 pub mod CellNames
 pub mod PredicateWords
 -- Actions: their names.
-pub mod KnownActions
 pub mod StackActionNames
 -- Their variables: cells, and behind them those of the source.
 pub mod StackScopes

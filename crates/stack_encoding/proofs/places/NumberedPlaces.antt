@@ -79,15 +79,18 @@ module _ {A B C : Type 0} (R : B → C → Type 0) (f : ℕ → A → B) (g : �
   now : (m : ℕ) (y : A) (xs : List A) → Goes m (y ∷ xs) → R (f m y) (g m y)
   now m y xs h = let n : m + 0 ≡ m = omega arith in subst (λ k. R (f k y) (g k y)) n (h 0 y refl)
 
-  pub together-numbered : (m : ℕ) (xs : List A) → ((j : ℕ) (x : A) → slice_get xs j ≡ Some x → R (f (m + j) x) (g (m + j) x)) → Together R (numbered f m xs) (numbered g m xs)
+  together-numbered : (m : ℕ) (xs : List A) → ((j : ℕ) (x : A) → slice_get xs j ≡ Some x → R (f (m + j) x) (g (m + j) x)) → Together R (numbered f m xs) (numbered g m xs)
   together-numbered m [] h = tt
   together-numbered m (y ∷ xs) h = (now m y xs h, together-numbered (suc m) xs (next m y xs h))
+
+  pub together-from_zero : (xs : List A) → ((j : ℕ) (x : A) → slice_get xs j ≡ Some x → R (f j x) (g j x)) → Together R (numbered f 0 xs) (numbered g 0 xs)
+  together-from_zero xs h = together-numbered 0 xs (λ j x e. let n : j ≡ 0 + j = omega arith in subst (λ k. R (f k x) (g k x)) n (h j x e))
 
   module _ (test : A → Bool) where
     abbrev Passes : ℕ → List A → Type 0
     Passes m xs = (j : ℕ) (x : A) → slice_get xs j ≡ Some x → test x ≡ true → R (f (m + j) x) (g (m + j) x)
 
-    pub together-passing : (m : ℕ) (xs : List A) → ((j : ℕ) (x : A) → slice_get xs j ≡ Some x → test x ≡ true → R (f (m + j) x) (g (m + j) x)) → Together R (passing f test m xs) (passing g test m xs)
+    together-passing : (m : ℕ) (xs : List A) → ((j : ℕ) (x : A) → slice_get xs j ≡ Some x → test x ≡ true → R (f (m + j) x) (g (m + j) x)) → Together R (passing f test m xs) (passing g test m xs)
     together-passing m [] h = tt
     together-passing m (y ∷ xs) h = go (test y) refl (together-passing (suc m) xs rest)
       where
@@ -97,3 +100,6 @@ module _ {A B C : Type 0} (R : B → C → Type 0) (f : ℕ → A → B) (g : �
         go : (q : Bool) → test y ≡ q → Together R (passing f test (suc m) xs) (passing g test (suc m) xs) → Together R (cond q (f m y ∷ passing f test (suc m) xs) (passing f test (suc m) xs)) (cond q (g m y ∷ passing g test (suc m) xs) (passing g test (suc m) xs))
         go true t r = (let n : m + 0 ≡ m = omega arith in subst (λ k. R (f k y) (g k y)) n (h 0 y refl t), r)
         go false t r = r
+
+    pub passing-from_zero : (xs : List A) → ((j : ℕ) (x : A) → slice_get xs j ≡ Some x → test x ≡ true → R (f j x) (g j x)) → Together R (passing f test 0 xs) (passing g test 0 xs)
+    passing-from_zero xs h = together-passing 0 xs (λ j x e t. let n : j ≡ 0 + j = omega arith in subst (λ k. R (f k x) (g k x)) n (h j x e t))

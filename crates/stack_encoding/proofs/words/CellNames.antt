@@ -11,12 +11,12 @@ use Rattle.plan_texts.specs.Declared.{named}
 use Rattle.plan_texts.specs.Types.{Has, EachIs}
 use Rattle.plan_texts.specs.Printable.{IsPlain}
 use Rattle.plan_texts.specs.SoundValue.{IsSoundHddl}
-use Rattle.plan_texts.proofs.Members.{each-has, has-to_map}
+use Rattle.plan_texts.proofs.Members.{each-has}
 use Rattle.plan_texts.proofs.Places.{each-join}
 use Rattle.slot_encoding.specs.EncodedNames.{encoded_types}
 use Rattle.slot_encoding.specs.EncodedWords.{own_word, type_words}
 use Rattle.slot_encoding.proofs.places.ObjectPlaces.{printed_object, printed_slot}
-use Rattle.slot_encoding.proofs.words.Lists.{each-left, each-right, each-map, each-of_map, different-by, IsBetween, different-ranks}
+use Rattle.slot_encoding.proofs.words.Lists.{each-map, each-of_map, different-by, IsBetween, different-ranks}
 use Rattle.slot_encoding.proofs.words.ObjectNames.{plain_slot}
 use Rattle.slot_encoding.proofs.words.PlainWords.{is_generated, escape_is_none, plain-escaped, escaped-once}
 use Rattle.slot_encoding.proofs.words.TableWords.{named-name, words-made}
@@ -24,6 +24,8 @@ use Rattle.slot_encoding.proofs.words.TypeWords.{retyped_within, count-types}
 use Rattle.stack_encoding.specs.StackNames.{stack_objects}
 use Rattle.stack_encoding.specs.StackWords.{cell_words}
 use Rattle.stack_encoding.proofs.words.FewCells.{cells_differ}
+use Rattle.stack_encoding.proofs.words.KnownEach.{known_object, known_cell}
+use Rattle.stack_encoding.proofs.words.KnownParts.{AreKnown}
 
 module _ (c : Compiled) (names : List Word) (b : ℕ) (sound : IsSoundHddl c.hddl) where
   abbrev own : Object → Word
@@ -38,18 +40,12 @@ module _ (c : Compiled) (names : List Word) (b : ℕ) (sound : IsSoundHddl c.hdd
   abbrev cells : List Word
   cells = map slot_word (numbers 0 (suc b))
 
-  module _ (known : EachIs (Has names) (cell_words c b)) where
-    known_source : (x : Object) → Has c.hddl.objects x → Has names (own x)
-    known_source x m = each-has (Has names) sources (own x) (each-left (Has names) sources cells known) (has-to_map own c.hddl.objects x m)
-
-    known_cell : (k : ℕ) → Has (numbers 0 (suc b)) k → Has names (slot_word k)
-    known_cell k m = each-has (Has names) cells (slot_word k) (each-right (Has names) sources cells known) (has-to_map slot_word (numbers 0 (suc b)) k m)
-
+  module _ (known : AreKnown c b names) where
     pub objects-named : map (λ (x : Object). named names x.name) (stack_objects c names b) ≡ cell_words c b
     objects-named =
         let read = λ (x : Object). named names x.name in
-        let e = words-made (printed_object c names b) read own c.hddl.objects (λ x m. named-name (own x) names (known_source x m)) in
-        let f = words-made (printed_slot c names b) read slot_word (numbers 0 (suc b)) (λ k m. named-name (slot_word k) names (known_cell k m)) in
+        let e = words-made (printed_object c names b) read own c.hddl.objects (λ x m. named-name (own x) names (known_object c b names known x m)) in
+        let f = words-made (printed_slot c names b) read slot_word (numbers 0 (suc b)) (λ k m. named-name (slot_word k) names (known_cell c b names known k m)) in
         map-append read (map (printed_object c names b) c.hddl.objects) (map (printed_slot c names b) (numbers 0 (suc b))) ∙ (λ i. e i ++ f i)
 
     plain : EachIs IsPlain (cell_words c b)

@@ -8,7 +8,6 @@ use Rattle.plan_model.specs.declared.terms.Param.{Param}
 use Rattle.plan_model.specs.declared.schemas.Predicate.{Predicate}
 use Rattle.plan_model.specs.declared.schemas.TaskSchema.{TaskSchema}
 use Rattle.plan_model.specs.declared.schemas.ActionSchema.{ActionSchema}
-use Rattle.plan_model.specs.declared.schemas.MethodPlan.{MethodPlan}
 use Rattle.plan_model.specs.declared.values.Compiled.{Compiled}
 use Rattle.plan_model.specs.task_networks.Spelling.{numbers}
 use Rattle.plan_model.specs.plan_meaning.Compilation.{IsCompiled}
@@ -18,13 +17,13 @@ use Rattle.plan_texts.specs.SpellsHddl.{hddl_words}
 use Rattle.plan_texts.specs.Printable.{IsPlain, IsPlainVariable, IsSoundParam}
 use Rattle.plan_texts.specs.SoundValue.{IsSoundHddl, arities}
 use Rattle.plan_texts.proofs.Basics.{apart}
-use Rattle.plan_texts.proofs.Members.{each-has, each-lacks, has-to_map}
+use Rattle.plan_texts.proofs.Members.{each-has, each-lacks}
 use Rattle.plan_texts.proofs.Places.{plain-variable}
 use Rattle.slot_encoding.specs.SourceParts.{name}
 use Rattle.slot_encoding.specs.EncodedNames.{guard_types, guard_word, checked_methods, encoded_predicates, held_params}
 use Rattle.slot_encoding.specs.EncodedWords.{own_word, numbered}
 use Rattle.slot_encoding.proofs.words.GuardWords.{guard_rank}
-use Rattle.slot_encoding.proofs.words.Lists.{each-part, each-map, AreBelow, different-ranks, below-join, between-map}
+use Rattle.slot_encoding.proofs.words.Lists.{each-map, AreBelow, different-ranks, below-join, between-map}
 use Rattle.slot_encoding.proofs.words.PlainWords.{rank, rank-escaped, plain-behind, folded-decimal}
 use Rattle.slot_encoding.proofs.words.PredicateNames.{predicates-named as slot_predicates-named, predicates_plain as slot_predicates_plain, predicates_differ as slot_predicates_differ}
 use Rattle.slot_encoding.proofs.words.PredicatePlaces.{printed_predicate, held_task, held_action, held_check, guarding, first_group, action_group, check_group, guard_group}
@@ -33,7 +32,8 @@ use Rattle.slot_encoding.proofs.words.TableWords.{named-name, words-made}
 use Rattle.slot_encoding.proofs.words.TypeWords.{generated_kinds}
 use Rattle.stack_encoding.specs.StackNames.{stack_predicates}
 use Rattle.stack_encoding.proofs.words.Appended.{appended, of-appended, to-appended, map-appended, different-appended}
-use Rattle.stack_encoding.proofs.words.KnownParts.{AreKnown, predicate_part, task_part, held_part, check_part, check_word}
+use Rattle.stack_encoding.proofs.words.KnownParts.{AreKnown, check_word}
+use Rattle.stack_encoding.proofs.words.KnownEach.{known_source, known_task, known_held, known_holding, known_guard}
 use Rattle.stack_encoding.proofs.words.FewCells.{wide, wide_has}
 use Rattle.stack_encoding.proofs.words.StackDeclared.{stack_declared, stack_arities, cell_group, stack_extended}
 
@@ -67,31 +67,16 @@ module _ (c : Compiled) (names : List Word) (b : ℕ) (sound : IsSoundHddl c.hdd
   abbrev nm : Predicate → Word
   nm d = named names d.name
 
-  known_task : (s : TaskSchema) → Has c.hddl.tasks s → EachIs (Has names) (task_part c s)
-  known_task s m = each-part (Has names) (task_part c) c.hddl.tasks s known.tasks m
-
-  known_held : (s : ActionSchema) → Has c.hddl.actions s → EachIs (Has names) (held_part c s)
-  known_held s m = each-part (Has names) (held_part c) c.hddl.actions s known.held m
-
-  known_check : (p : MethodPlan) → Has (checked_methods c) p → EachIs (Has names) (check_part c p)
-  known_check p m = each-part (Has names) (check_part c) (checked_methods c) p known.checks m
-
-  known_source : (p : Predicate) → Has c.hddl.predicates p → EachIs (Has names) (predicate_part c p)
-  known_source p m = each-part (Has names) (predicate_part c) c.hddl.predicates p known.source m
-
-  known_guard : (ty : ℕ) → Has (guard_types c) ty → Has names (guard_word c [] 0 ty)
-  known_guard ty m = each-has (Has names) (guard_names c) (guard_word c [] 0 ty) known.guards (has-to_map (guard_word c [] 0) (guard_types c) ty m)
-
   pub predicates-named : map (λ (d : Predicate). named names d.name) (stack_predicates c names b) ≡ predicate_names c (of_stack c)
   predicates-named =
-      let f = words-made (printed_predicate c names b) nm (λ (p : Predicate). own_word c p.name) c.hddl.predicates (λ p m. named-name (own_word c p.name) names (known_source p m).0) in
-      let t = words-made (held_task c names b) nm (λ (s : TaskSchema). codes "htn_t_" ++ own_word c s.name) c.hddl.tasks (λ s m. named-name (codes "htn_t_" ++ own_word c s.name) names (known_task s m).0) in
+      let f = words-made (printed_predicate c names b) nm (λ (p : Predicate). own_word c p.name) c.hddl.predicates (λ p m. named-name (own_word c p.name) names (known_source c b names known p m).0) in
+      let t = words-made (held_task c names b) nm (λ (s : TaskSchema). codes "htn_t_" ++ own_word c s.name) c.hddl.tasks (λ s m. named-name (codes "htn_t_" ++ own_word c s.name) names (known_task c b names known s m).0) in
       let x = named-name (codes "htn_top") names known.three.0 in
       let y = named-name (codes "htn_tip") names known.three.1.0 in
       let z = named-name (codes "htn_up") names known.three.1.1.0 in
-      let a = words-made (held_action c names b) nm (λ (s : ActionSchema). codes "htn_a_" ++ own_word c s.name) c.hddl.actions (λ s m. named-name (codes "htn_a_" ++ own_word c s.name) names (known_held s m).0) in
-      let k = words-made (held_check c names b) nm (check_word c) (checked_methods c) (λ p m. named-name (check_word c p) names (known_check p m).0) in
-      let g = words-made (guarding c names b) nm (guard_word c [] 0) (guard_types c) (λ ty m. named-name (guard_word c [] 0 ty) names (known_guard ty m)) in
+      let a = words-made (held_action c names b) nm (λ (s : ActionSchema). codes "htn_a_" ++ own_word c s.name) c.hddl.actions (λ s m. named-name (codes "htn_a_" ++ own_word c s.name) names (known_held c b names known s m).0) in
+      let k = words-made (held_check c names b) nm (check_word c) (checked_methods c) (λ p m. named-name (check_word c p) names (known_holding c b names known p m).0) in
+      let g = words-made (guarding c names b) nm (guard_word c [] 0) (guard_types c) (λ ty m. named-name (guard_word c [] 0 ty) names (known_guard c b names known ty m)) in
       map-appended nm (first_group c names b) (cell_group c names b ∷ action_group c names b ∷ check_group c names b ∷ guard_group c names b ∷ [])
       ∙ (λ i. appended (f i) ((x i ∷ y i ∷ z i ∷ t i) ∷ a i ∷ k i ∷ g i ∷ []))
 
@@ -129,13 +114,13 @@ module _ (c : Compiled) (names : List Word) (b : ℕ) (sound : IsSoundHddl c.hdd
   source_sound : (d : Predicate) → Has c.hddl.predicates d → SoundParams (printed_predicate c names b d)
   source_sound d m =
       let s = each-has (λ (d : Predicate). EachIs (IsSoundParam (hddl_words c.hddl) (arities c.hddl)) d.params) c.hddl.predicates d sound.predicates m in
-      each_param (hddl_words c.hddl) (stack_declared c names b) (arities c.hddl) (stack_arities c names b) (stack_extended c names b sound known.types) d.params (known_source d m).1 s
+      each_param (hddl_words c.hddl) (stack_declared c names b) (arities c.hddl) (stack_arities c names b) (stack_extended c names b sound known.types) d.params (known_source c b names known d m).1 s
 
   pub predicate_params : EachIs (λ (d : Predicate). EachIs (IsSoundParam (stack_declared c names b) (stack_arities c names b)) d.params) (stack_predicates c names b)
   predicate_params =
-      let tasks = each-map SoundParams (held_task c names b) c.hddl.tasks (λ s m. sound_held (length s.params) (known_task s m).1) in
-      let actions = each-map SoundParams (held_action c names b) c.hddl.actions (λ s m. sound_held (length s.params) (known_held s m).1) in
-      let checks = each-map SoundParams (held_check c names b) (checked_methods c) (λ p m. sound_held (length p.schema.params) (known_check p m).1) in
+      let tasks = each-map SoundParams (held_task c names b) c.hddl.tasks (λ s m. sound_held (length s.params) (known_task c b names known s m).1) in
+      let actions = each-map SoundParams (held_action c names b) c.hddl.actions (λ s m. sound_held (length s.params) (known_held c b names known s m).1) in
+      let checks = each-map SoundParams (held_check c names b) (checked_methods c) (λ p m. sound_held (length p.schema.params) (known_holding c b names known p m).1) in
       let guards = each-map SoundParams (guarding c names b) (guard_types c) (λ ty m. (sound_a1, tt)) in
       to-appended SoundParams (first_group c names b) (cell_group c names b ∷ action_group c names b ∷ check_group c names b ∷ guard_group c names b ∷ [])
       (each-map SoundParams (printed_predicate c names b) c.hddl.predicates source_sound)

@@ -1,5 +1,5 @@
 -- The words of the printed actions of a stack: they are those of the actions with slots, so plain, and no two the same.
-use Rattle.std.proofs.Common.{ℕ, zero, suc, ◌≡◌, ◌+◌, cond, List, [], ◌∷◌, ◌++◌, map, slice_get, Some, refl, ap, sym, subst, ◌∙◌, arith}
+use Rattle.std.proofs.Common.{ℕ, zero, suc, ◌≡◌, cond, List, [], ◌∷◌, ◌++◌, map, slice_get, Some, refl, ap, sym, subst, ◌∙◌}
 use Rattle.htn_base.specs.Different.{AreDifferent}
 use Rattle.text_forms.specs.Words.{Word}
 use Rattle.plan_model.specs.declared.options.Style.TheVariants.{Adl}
@@ -25,11 +25,11 @@ use Rattle.slot_encoding.proofs.words.TableWords.{named-name}
 use Rattle.stack_encoding.specs.StackActions.{stack_method, stack_check, stack_action}
 use Rattle.stack_encoding.specs.StackActions as Stack
 use Rattle.stack_encoding.specs.StackValue.{stack_actions}
-use Rattle.stack_encoding.proofs.places.NumberedPlaces.{numbered, passing, together-numbered, together-passing}
+use Rattle.stack_encoding.proofs.places.NumberedPlaces.{numbered, passing, together-from_zero, passing-from_zero}
 use Rattle.stack_encoding.proofs.places.StackPlaces.{actions-numbered}
 use Rattle.stack_encoding.proofs.words.FewCells.{wide, wide_has, widen, known_plan}
 use Rattle.stack_encoding.proofs.words.KnownParts.{AreKnown, check_word}
-use Rattle.stack_encoding.proofs.words.KnownActions.{known_check, known_action}
+use Rattle.stack_encoding.proofs.words.KnownEach.{known_check, known_action}
 
 -- the word of a method's action, by its number
 pub method_word-same : (c : Compiled) (names : List Word) (b m : ℕ) (plan : MethodPlan) → Stack.method_word c names b m plan m ≡ method_word c m plan.schema.name
@@ -71,17 +71,11 @@ module _ (c : Compiled) (names : List Word) (b : ℕ) (sound : IsSoundHddl c.hdd
       go zero h = word (method_word c 0 plan.schema.name) h
       go (suc k) h = word (method_word c (suc k) plan.schema.name) h
 
-  abbrev from_zero : {A : Type 0} → (ℕ → A → Type 0) → ℕ → A → Type 0
-  from_zero P j x = P (0 + j) x
-
-  at_zero : {A : Type 0} (P : ℕ → A → Type 0) (j : ℕ) (x : A) → P j x → P (0 + j) x
-  at_zero P j x p = let n : j ≡ 0 + j = omega arith in subst (λ z. P z x) n p
-
   pub names-same : map (λ (a : ActionSchema). named names a.name) (stack_actions c names b) ≡ map (λ (a : ActionSchema). named (wide c b names) a.name) (encoded_actions c (wide c b names) b Adl)
   names-same =
-      let methods = together-numbered SameName (stack_method c names b) (encoded_method c more b Adl) 0 c.methods (λ j plan e. at_zero (λ k p. SameName (stack_method c names b k p) (encoded_method c more b Adl k p)) j plan (of_method j plan e)) in
-      let checks = together-passing SameName (stack_check c names b) (encoded_check c more b Adl) is_checked 0 c.methods (λ j plan e t. word (check_word c plan) (known_check c b names known j plan e t)) in
-      let sources = together-numbered SameName (stack_action c names b) (encoded_action c more b Adl) 0 c.hddl.actions (λ j s e. word (own_word c s.name) (known_action c b names known j s e).word) in
+      let methods = together-from_zero SameName (stack_method c names b) (encoded_method c more b Adl) c.methods of_method in
+      let checks = passing-from_zero SameName (stack_check c names b) (encoded_check c more b Adl) is_checked c.methods (λ j plan e t. word (check_word c plan) (known_check c b names known j plan e t)) in
+      let sources = together-from_zero SameName (stack_action c names b) (encoded_action c more b Adl) c.hddl.actions (λ j s e. word (own_word c s.name) (known_action c b names known j s e).word) in
       let ms = numbered (stack_method c names b) 0 c.methods in let ms' = numbered (encoded_method c more b Adl) 0 c.methods in
       let cs = passing (stack_check c names b) is_checked 0 c.methods in let cs' = passing (encoded_check c more b Adl) is_checked 0 c.methods in
       let ss = numbered (stack_action c names b) 0 c.hddl.actions in let ss' = numbered (encoded_action c more b Adl) 0 c.hddl.actions in

@@ -1,5 +1,5 @@
 -- Each printed action of a stack is sound.
-use Rattle.std.proofs.Common.{ℕ, zero, suc, ◌≡◌, ◌+◌, ◌-◌, ◌<◌, ◌≤◌, ◌==◌, ◌^◌, inl, inr, Bool, true, false, cond, List, [], ◌∷◌, ◌++◌, map, length, slice_get, Some, codes, refl, ap, sym, subst, ◌∙◌, arith}
+use Rattle.std.proofs.Common.{ℕ, zero, suc, ◌≡◌, ◌-◌, ◌<◌, ◌≤◌, ◌==◌, ◌^◌, inl, inr, Bool, true, false, cond, List, [], ◌∷◌, ◌++◌, map, length, slice_get, Some, codes, refl, sym, subst, ◌∙◌, arith}
 use Rattle.htn_base.specs.declared.name.Name.{Name}
 use Rattle.text_forms.specs.Words.{Word}
 use Rattle.plan_model.specs.declared.options.Checks.{Checks}
@@ -17,7 +17,7 @@ use Rattle.plan_model.specs.task_networks.Spelling.{numbers}
 use Rattle.plan_model.specs.plan_meaning.Compilation.{IsCompiled}
 use Rattle.plan_model.specs.Pairs.{Pairs}
 use Rattle.plan_model.proofs.task_networks.Numbers.{length-numbers, numbers_to}
-use Rattle.plan_texts.specs.Declared.{Declared, variable}
+use Rattle.plan_texts.specs.Declared.{Declared}
 use Rattle.plan_texts.specs.Types.{Has, EachIs}
 use Rattle.plan_texts.specs.SpellsHddl.{hddl_words}
 use Rattle.plan_texts.specs.Printable.{IsInForce, IsSoundAtom, AreSoundParams, IsSound, IsSoundEffect}
@@ -39,11 +39,11 @@ use Rattle.slot_encoding.proofs.words.SoundEquations.{sound-Holds, sound-And, so
 use Rattle.slot_encoding.proofs.words.Works.{IsSoundAction}
 use Rattle.stack_machine.specs.Stack.{behind}
 use Rattle.stack_machine.proofs.Heights.{whole_length}
-use Rattle.stack_encoding.specs.StackActions.{is_tip, is_up, at_tip, falling, falling_params, held_at_tip, tip_action, asked, rising, child_cells, climbing, method_params, method_pre, method_eff, stack_method}
+use Rattle.stack_encoding.specs.StackActions.{is_tip, is_up, at_tip, falling, held_at_tip, tip_action, asked, rising, child_cells, climbing, method_params, method_pre, method_eff, stack_method}
 use Rattle.stack_encoding.specs.StackValue.{stack_actions}
 use Rattle.stack_encoding.proofs.places.StackPlaces.{IsOfMethod, IsOfCheck, IsOfAction, action_cases}
 use Rattle.stack_encoding.proofs.words.FewCells.{known_plan}
-use Rattle.stack_encoding.proofs.words.KnownActions.{known_action}
+use Rattle.stack_encoding.proofs.words.KnownEach.{known_action}
 use Rattle.stack_encoding.proofs.words.KnownParts.{AreKnown, check_word}
 use Rattle.stack_encoding.proofs.words.StackDeclared.{stack_declared, stack_arities, takes}
 use Rattle.stack_encoding.proofs.words.StackFronts.{climbing_cells, climbing_front, falling_cells, falling_front}

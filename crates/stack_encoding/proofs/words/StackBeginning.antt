@@ -1,5 +1,5 @@
 -- The initial atoms and the goal of the printed problem of a stack are sound.
-use Rattle.std.proofs.Common.{ℕ, suc, ◌+◌, ◌<◌, ◌≤◌, inl, inr, Bool, true, false, cond, List, [], ◌∷◌, ◌++◌, map, length, refl, sym, subst, ◌∙◌, arith}
+use Rattle.std.proofs.Common.{ℕ, suc, ◌<◌, ◌≤◌, inl, inr, Bool, true, false, cond, List, [], ◌∷◌, ◌++◌, map, length, refl, sym, subst, ◌∙◌, arith}
 use Rattle.text_forms.specs.Words.{Word}
 use Rattle.plan_model.specs.declared.options.Style.TheVariants.{Adl}
 use Rattle.plan_model.specs.declared.terms.GroundAtom.{GroundAtom}
@@ -17,7 +17,7 @@ use Rattle.plan_texts.specs.Types.{Has, EachIs}
 use Rattle.plan_texts.specs.SpellsHddl.{hddl_words}
 use Rattle.plan_texts.specs.Printable.{IsInForce, IsSoundAtom, IsSound}
 use Rattle.plan_texts.specs.SoundValue.{IsSoundHddl, arities}
-use Rattle.plan_texts.proofs.Members.{each-has, contains-has, has-contains, length-map}
+use Rattle.plan_texts.proofs.Members.{each-has, contains-has, has-contains}
 use Rattle.plan_texts.proofs.Places.{each-join}
 use Rattle.slot_encoding.specs.SourceParts.{source_formula}
 use Rattle.slot_encoding.specs.EncodedNames.{guard_types, guard_predicate, top_predicate}

@@ -48,8 +48,8 @@ module _ (mode : Checks) (c : Compiled) (b : ℕ) (names : List Word) (init : Li
       types = types_plain c names b sound known.types;
       types_differ = types_differ c names b sound known.types;
       unions = unions_printed c names b sound known.types;
-      objects = objects_plain c names b sound known.cells;
-      objects_differ = objects_differ c names b sound known.cells (few_cells c b names known few.short);
+      objects = objects_plain c names b sound known;
+      objects_differ = objects_differ c names b sound known (few_cells c b names known few.short);
       predicates = predicates_plain c names b sound known mode compiled few.top;
       predicates_differ = predicates_differ c names b sound known mode compiled few.top few.unions;
     };
