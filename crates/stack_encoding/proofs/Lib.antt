@@ -1,0 +1,4 @@
+pub mod places
+pub mod StackOver
+pub mod words
+pub mod said
