@@ -31,7 +31,7 @@ pub(crate) fn action_at(alloc: Global, frame: &Frame<'_>, k: u32) -> Result<Spli
 }
 
 /// The predicate of method `m`'s check.
-pub(crate) fn check_predicate(frame: &Frame<'_>, m: u32) -> Result<u32, Memory>
+pub fn check_predicate(frame: &Frame<'_>, m: u32) -> Result<u32, Memory>
     requires frame { IsFrame frame.now }
     requires some { m < length frame.now.compiled.now.methods }
     ensures { IfOk result (λ p. p ≡ names.check_predicate frame.now.compiled.now m) }

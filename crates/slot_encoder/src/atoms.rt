@@ -43,7 +43,7 @@ pub(crate) fn comes_before(
 }
 
 /// The atom that the slot holds what has these arguments, behind `front` further variables.
-pub(crate) fn held(
+pub fn held(
     alloc: Global,
     frame: &Frame<'_>,
     predicate: u32,

@@ -11,7 +11,7 @@ use slot_encoding::slot_declarations::Frame;
 use std::alloc::Global;
 
 /// Puts a source condition at the end, but no empty conjunction.
-pub(crate) fn push_condition(
+pub fn push_condition(
     alloc: Global,
     frame: &Frame<'_>,
     front: u32,
@@ -28,7 +28,7 @@ pub(crate) fn push_condition(
 }
 
 /// Puts a source effect at the end, but no empty conjunction.
-pub(crate) fn push_change(
+pub fn push_change(
     alloc: Global,
     frame: &Frame<'_>,
     front: u32,

@@ -39,7 +39,7 @@ fn push_first(alloc: Global, frame: &Frame<'_>, into: &mut Facts) -> Result<(), 
 }
 
 /// Puts at the end the atoms of these guards: for each the objects in its type.
-fn push_guards(
+pub fn push_guards(
     alloc: Global,
     frame: &Frame<'_>,
     types: &[u32],

@@ -109,7 +109,7 @@ fn push_before(
 
 /// Puts at the end what it asks for besides, the free slots being different: the constraints, the guards, and the precondition
 /// where it is tested at once.
-fn push_behind(
+pub fn push_behind(
     alloc: Global,
     frame: &Frame<'_>,
     front: u32,

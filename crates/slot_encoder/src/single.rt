@@ -12,12 +12,7 @@ use std::collections::BTreeSet;
 
 /// Puts each of the facts at the end, at its first place alone. It takes less memory and time for facts of which no predicate
 /// and no object is greater than `most`.
-pub(crate) fn push_single(
-    alloc: Global,
-    facts: &Facts,
-    most: u32,
-    into: &mut Facts,
-) -> Result<(), Memory>
+pub fn push_single(alloc: Global, facts: &Facts, most: u32, into: &mut Facts) -> Result<(), Memory>
     ensures { OnOk result (into.new ≡ into.old ++ once same_atom facts.now) }
 {
     let mut seen = Seen {

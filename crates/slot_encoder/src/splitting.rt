@@ -92,7 +92,7 @@ fn push_split(
 }
 
 /// Puts at the end that each child is in its slot.
-fn push_children(
+pub fn push_children(
     alloc: Global,
     frame: &Frame<'_>,
     check: u32,
