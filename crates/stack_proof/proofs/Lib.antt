@@ -1,1 +1,3 @@
 pub mod machine
+-- Lists of steps, and the fronts that they spell.
+pub mod spelling

@@ -1,0 +1,5 @@
+pub mod Total
+pub mod Plain
+
+-- pub mod OneAct
+-- pub mod Spelled
