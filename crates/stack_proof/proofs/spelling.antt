@@ -1,5 +1,4 @@
 pub mod Total
 pub mod Plain
-
--- pub mod OneAct
--- pub mod Spelled
+pub mod OneAct
+pub mod Spelled
