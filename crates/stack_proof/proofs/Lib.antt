@@ -1,3 +1,5 @@
 pub mod machine
 -- Lists of steps, and the fronts that they spell.
 pub mod spelling
+-- Every value of the source texts.
+pub mod texts
