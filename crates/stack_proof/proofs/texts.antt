@@ -1,3 +1,5 @@
 pub mod SameNames
 pub mod SameActions
 pub mod SameStack
+pub mod Unordered
+pub mod Lined
