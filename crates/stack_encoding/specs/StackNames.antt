@@ -3,7 +3,6 @@
 -- Source: this project's encoding.
 use Rattle.std.specs.Prelude.{ℕ, suc, ◌+◌, true, List, [], ◌∷◌, ◌++◌, map, codes}
 use Rattle.htn_base.specs.Escapes.{slot_word}
-use Rattle.plan_model.specs.declared.terms.Param.{Param}
 use Rattle.plan_model.specs.declared.types.Object.{Object}
 use Rattle.plan_model.specs.declared.schemas.Predicate.{Predicate}
 use Rattle.plan_model.specs.declared.schemas.TaskSchema.{TaskSchema}
