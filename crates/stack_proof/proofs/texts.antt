@@ -3,3 +3,7 @@ pub mod SameActions
 pub mod SameStack
 pub mod Unordered
 pub mod Lined
+pub mod SamePrinted
+pub mod Faithful
+pub mod Headlines
+pub mod Texts

@@ -8,10 +8,12 @@
 #![tactic(auto)]
 
 mod order_laws;
+mod plan_laws;
 mod print_laws;
 mod value_laws;
 
 pub use order_laws::{ordered_or_one_first, values_are_ordered_alike};
+pub use plan_laws::{each_tree_has_one_spelling, stack_value_is_faithful};
 pub use print_laws::{
     one_pair_of_stack_texts, printed_stack_texts_are_the_pair, some_pair_of_stack_texts,
 };
