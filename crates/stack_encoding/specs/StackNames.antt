@@ -1,7 +1,7 @@
 -- The cells and the predicates of the printed problem of a stack.
 -- Types, guards and source parts are those of the encoding with slots.
 -- Source: this project's encoding.
-use Rattle.std.specs.Prelude.{ℕ, suc, ◌+◌, List, [], ◌∷◌, ◌++◌, map, codes}
+use Rattle.std.specs.Prelude.{ℕ, suc, ◌+◌, List, [], ◌∷◌, ◌++◌, map, codes, true}
 use Rattle.htn_base.specs.Escapes.{slot_word}
 use Rattle.plan_model.specs.declared.terms.Param.{Param}
 use Rattle.plan_model.specs.declared.types.Object.{Object}

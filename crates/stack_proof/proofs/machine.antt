@@ -1,1 +1,4 @@
+-- How a printed state reads.
 pub mod StackReading
+-- Each printed action is a step of the stack and of the source.
+pub mod StackFacts
