@@ -1,3 +1,8 @@
 -- Words of objects, of actions and of steps.
 pub mod Cells
 pub mod CellWords
+pub mod Actions
+pub mod ActionNames
+pub mod Rows
+pub mod Lines
+pub mod StepWords
