@@ -6,3 +6,4 @@ pub mod ActionNames
 pub mod Rows
 pub mod Lines
 pub mod StepWords
+pub mod StepActs
