@@ -7,3 +7,5 @@ pub mod Rows
 pub mod Lines
 pub mod StepWords
 pub mod StepActs
+pub mod FirstGuards
+pub mod SourceMeanings
