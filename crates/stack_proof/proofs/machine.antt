@@ -2,3 +2,5 @@
 pub mod StackReading
 -- Each printed action is a step of the stack and of the source.
 pub mod StackFacts
+pub mod CellAtoms
+pub mod CellChanges
