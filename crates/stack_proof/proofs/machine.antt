@@ -4,3 +4,6 @@ pub mod StackReading
 pub mod StackFacts
 pub mod CellAtoms
 pub mod CellChanges
+pub mod Falling
+pub mod Fallen
+pub mod TipActions
