@@ -7,3 +7,5 @@ pub mod CellChanges
 pub mod Falling
 pub mod Fallen
 pub mod TipActions
+pub mod Asked
+pub mod ChildCells
