@@ -9,3 +9,4 @@ pub mod Fallen
 pub mod TipActions
 pub mod Asked
 pub mod ChildCells
+pub mod Climbing
