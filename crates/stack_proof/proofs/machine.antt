@@ -10,3 +10,9 @@ pub mod TipActions
 pub mod Asked
 pub mod ChildCells
 pub mod Climbing
+pub mod MethodStates
+pub mod TipMethods
+-- Runs and plans.
+pub mod TipRuns
+pub mod TipPlans
+pub mod KnownActs
