@@ -1,0 +1,3 @@
+pub mod places
+pub mod StackOver
+pub mod words
