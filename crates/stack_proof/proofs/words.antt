@@ -1,7 +1,6 @@
 -- Words of objects, of actions and of steps.
 pub mod Cells
 pub mod CellWords
-pub mod Actions
 pub mod ActionNames
 pub mod Rows
 pub mod Lines

@@ -24,11 +24,11 @@ use Rattle.slot_encoding.specs.EncodedNames.{slot_type, slot_param}
 use Rattle.stack_encoding.specs.StackActions.{method_params, method_word, stack_method, stack_check, stack_action}
 use Rattle.stack_encoding.specs.StackValue.{stack_actions}
 use Rattle.stack_encoding.specs.StackSpelling.{cells_of}
-use Rattle.stack_encoding.specs.StackPrinted.{IsPrintedStack}
+use Rattle.stack_encoding.proofs.places.StackWorded.{IsStackWorded}
 use Rattle.slot_encoding.proofs.places.ListPlaces.{get_to_map}
 use Rattle.plan_proof.proofs.machine.ObjectWords.{name_word, same_get}
 
-module _ (h : Hddl) (mode : Checks) (c : Compiled) (b : ℕ) (p : Pddl) (is : IsPrintedStack h mode c b p) where
+module _ (h : Hddl) (mode : Checks) (c : Compiled) (b : ℕ) (p : Pddl) (is : IsStackWorded h mode c b p) where
   abbrev words : List Word
   words = map (λ (a : ActionSchema). named p.names a.name) p.actions
 
@@ -43,7 +43,7 @@ module _ (h : Hddl) (mode : Checks) (c : Compiled) (b : ℕ) (p : Pddl) (is : Is
   -- actions of one word are one
   pub same_action : (j k : ℕ) (a d : ActionSchema) (w : Word) → IsNamed j a w → IsNamed k d w → (j ≡ k) × (a ≡ d)
   same_action j k a d w m n =
-      let e = same_get words j k w is.printable.actions_differ (there j a w m) (there k d w n) in
+      let e = same_get words j k w is.actions_differ (there j a w m) (there k d w n) in
       let f : slice_get p.actions k ≡ Some a = subst (λ z. slice_get p.actions z ≡ Some a) e m.at in
       let g = n.at in
       (e, cc)
@@ -51,7 +51,7 @@ module _ (h : Hddl) (mode : Checks) (c : Compiled) (b : ℕ) (p : Pddl) (is : Is
   named_at : (k : ℕ) (a : ActionSchema) (w : Word) → slice_get (stack_actions c p.names b) k ≡ Some a → a.name ≡ name p.names w → IsNamed k a w
   named_at k a w e f =
       let g : slice_get p.actions k ≡ Some a = ap (λ z. slice_get z k) is.encoded.actions ∙ e in
-      let plain : IsPlain (named p.names a.name) = each-at-some IsPlain words k (named p.names a.name) is.printable.actions_named (get_to_map (λ (a : ActionSchema). named p.names a.name) p.actions k a g) in
+      let plain : IsPlain (named p.names a.name) = each-at-some IsPlain words k (named p.names a.name) is.actions (get_to_map (λ (a : ActionSchema). named p.names a.name) p.actions k a g) in
       record { at = g; word = subst (λ z. slice_get p.names z.number ≡ Some w) (sym f) (name_word p.names w (subst (λ z. is_name (named p.names z) ≡ true) f plain.1)) }
 
   -- the words of the three kinds

@@ -22,10 +22,11 @@ use Rattle.slot_encoding.proofs.places.ListPlaces.{get_to_map, get_within, withi
 use Rattle.slot_encoding.proofs.places.ObjectPlaces.{printed_object, printed_slot}
 use Rattle.plan_proof.proofs.machine.ObjectWords.{name_word, same_get}
 use Rattle.stack_encoding.specs.StackNames.{cell_object, stack_objects}
-use Rattle.stack_encoding.specs.StackPrinted.{IsPrintedStack}
-use Rattle.stack_proof.proofs.words.Cells.{IsNumber, object_at, cell_at}
+use Rattle.stack_encoding.proofs.places.StackWorded.{IsStackWorded}
+use Rattle.stack_encoding.proofs.places.CellPlaces.{object_at, cell_at}
+use Rattle.stack_proof.proofs.words.Cells.{IsNumber}
 
-module _ (h : Hddl) (mode : Checks) (c : Compiled) (b : ℕ) (p : Pddl) (is : IsPrintedStack h mode c b p) where
+module _ (h : Hddl) (mode : Checks) (c : Compiled) (b : ℕ) (p : Pddl) (is : IsStackWorded h mode c b p) where
   abbrev words : List Word
   words = map (λ (x : Object). named p.names x.name) p.objects
 
@@ -36,7 +37,7 @@ module _ (h : Hddl) (mode : Checks) (c : Compiled) (b : ℕ) (p : Pddl) (is : Is
   -- an object named by a word has this word
   has_word : (o : ℕ) (x : Object) (w : Word) → slice_get p.objects o ≡ Some x → x.name ≡ name p.names w → HasWord p o w
   has_word o x w e f =
-      let plain : IsPlain (named p.names x.name) = each-at-some IsPlain words o (named p.names x.name) is.printable.words.objects (get_to_map (λ (x : Object). named p.names x.name) p.objects o x e) in
+      let plain : IsPlain (named p.names x.name) = each-at-some IsPlain words o (named p.names x.name) is.objects (get_to_map (λ (x : Object). named p.names x.name) p.objects o x e) in
       (x, e, subst (λ z. slice_get p.names z.number ≡ Some w) (sym f) (name_word p.names w (subst (λ z. is_name (named p.names z) ≡ true) f plain.1)))
 
   at : (o : ℕ) (x : Object) → slice_get (stack_objects c p.names b) o ≡ Some x → slice_get p.objects o ≡ Some x
@@ -51,7 +52,7 @@ module _ (h : Hddl) (mode : Checks) (c : Compiled) (b : ℕ) (p : Pddl) (is : Is
   of_cell k l = has_word (cell_object c k) (printed_slot c p.names b k) (slot_word k) (at (cell_object c k) (printed_slot c p.names b k) (cell_at c p.names b k l)) refl
 
   one : (o o' : ℕ) (w : Word) → HasWord p o w → HasWord p o' w → o ≡ o'
-  one o o' w i j = same_get words o o' w is.printable.words.objects_differ (word_there o w i) (word_there o' w j)
+  one o o' w i j = same_get words o o' w is.objects_differ (word_there o w i) (word_there o' w j)
 
   one_word : (o : ℕ) (w w' : Word) → HasWord p o w → HasWord p o w' → w ≡ w'
   one_word o w w' i j = let e = word_there o w i in let f = word_there o w' j in cc

@@ -29,8 +29,8 @@ use Rattle.slot_encoding.proofs.places.ListPlaces.{get_within}
 use Rattle.slot_encoding.proofs.places.KeptItems.{keeps_to, to_keeps, position_at}
 use Rattle.stack_encoding.specs.StackNames.{tip_predicate, cell_object}
 use Rattle.stack_encoding.specs.StackValue.{up_fact, first_atoms, IsInitial}
-use Rattle.stack_encoding.specs.StackPrinted.{IsPrintedStack}
-use Rattle.stack_proof.proofs.words.Cells.{sound_here}
+use Rattle.stack_encoding.proofs.places.StackWorded.{IsStackWorded}
+use Rattle.stack_encoding.proofs.places.StackTypes.{stack_sound}
 
 module _ (c : Compiled) (names : List (List ℕ)) (b : ℕ) where
   abbrev ups : List GroundAtom
@@ -111,5 +111,5 @@ module _ (c : Compiled) (names : List (List ℕ)) (b : ℕ) where
         from i = subst (λ z. Contains z (atom (guard_predicate c ty) o)) (sym e) (Contains-append_right (first_atoms c names b) guards (atom (guard_predicate c ty) o) (to_types (guard_types c) guards a ty o m i))
 
 -- of the printed problem
-pub guard_atoms_agree : (h : Hddl) (mode : Checks) (c : Compiled) (b : ℕ) (p : Pddl) → IsPrintedStack h mode c b p → GuardAtomsAgree c b Adl p
-guard_atoms_agree h mode c b p is = guard_atoms c p.names b (sound_here h mode c b p is) p.init is.encoded.init
+pub guard_atoms_agree : (h : Hddl) (mode : Checks) (c : Compiled) (b : ℕ) (p : Pddl) → IsStackWorded h mode c b p → GuardAtomsAgree c b Adl p
+guard_atoms_agree h mode c b p is = guard_atoms c p.names b (stack_sound h mode c b p is) p.init is.encoded.init

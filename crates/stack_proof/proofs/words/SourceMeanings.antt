@@ -28,8 +28,8 @@ use Rattle.plan_model.specs.plan_meaning.ClassicalPlan as Printed
 use Rattle.plan_model.proofs.plan_meaning.TruthEquations.{truth-And}
 use Rattle.plan_model.proofs.plan_meaning.EffectEquations.{adds-And, deletes-And}
 use Rattle.slot_encoding.proofs.Pieces.{AreAgreed, IsSoundCondition, IsSoundChange, SourceMeaning, SourceAgrees}
-use Rattle.stack_encoding.specs.StackPrinted.{IsPrintedStack}
-use Rattle.stack_proof.proofs.words.Cells.{source_types}
+use Rattle.stack_encoding.proofs.places.StackWorded.{IsStackWorded}
+use Rattle.stack_encoding.proofs.places.StackTypes.{stack_types_agree}
 use Rattle.slot_encoding.proofs.places.SourceFormulas.{truth-source}
 use Rattle.plan_proof.proofs.machine.SourceEffects.{adds-source, deletes-source}
 
@@ -81,7 +81,7 @@ module _ (InType : ℕ → ℕ → Type 0) (S : State) (values : List ℕ) where
   empty_deletes : (e : Effect) (g : GroundAtom) → is_empty_effect e ≡ true → Deletes InType S e values g → ⊥
   empty_deletes e g h a = subst (λ z. z values g) (deletes-And InType S []) (subst (λ z. Deletes InType S z values g) (empty_change e h) a)
 
-module _ (h : Hddl) (mode : Checks) (c : Compiled) (b : ℕ) (p : Pddl) (is : IsPrintedStack h mode c b p) where
+module _ (h : Hddl) (mode : Checks) (c : Compiled) (b : ℕ) (p : Pddl) (is : IsStackWorded h mode c b p) where
   abbrev words : Declared
   words = hddl_words c.hddl
 
@@ -96,7 +96,7 @@ module _ (h : Hddl) (mode : Checks) (c : Compiled) (b : ℕ) (p : Pddl) (is : Is
     agree g l = agreed g (subst (λ z. g.predicate < z) (length-map c.hddl.predicates (λ (d : Predicate). named c.hddl.names d.name)) l)
 
     truth : (f : Formula) (values : List ℕ) → IsSoundCondition c f → IsTrueIn InP S' (source_formula p.names c.hddl.names (length front) f) (front ++ values) ↔ IsTrueIn InC S f values
-    truth f values s = truth-source p.names c.hddl.names InC InP (source_types h mode c b p is) words (arities c.hddl) S S' agree front f s.0 values s.1
+    truth f values s = truth-source p.names c.hddl.names InC InP (stack_types_agree h mode c b p is).source words (arities c.hddl) S S' agree front f s.0 values s.1
 
     condition : (f : Formula) (values : List ℕ) → IsSoundCondition c f → EachTrue (IsTrueIn InP S') (source_condition c p.names b Adl (length front) f) (front ++ values) ↔ IsTrueIn InC S f values
     condition f values s = go (is_empty f) refl
@@ -114,7 +114,7 @@ module _ (h : Hddl) (mode : Checks) (c : Compiled) (b : ℕ) (p : Pddl) (is : Is
         go : (t : Bool) → is_empty_effect e ≡ t → OneTrue (λ x v. Adds InP S' x v g) (cond t [] (source_effect p.names c.hddl.names (length front) e ∷ [])) (front ++ values) ↔ Adds InC S e values g
         go true f = (λ x. absurd x, λ x. empty_adds InC S values e g f x)
         go false f =
-            let r = (adds-source p.names c.hddl.names InC InP (source_types h mode c b p is) words (arities c.hddl) S S' agree front e).same s.0 values g s.1 in
+            let r = (adds-source p.names c.hddl.names InC InP (stack_types_agree h mode c b p is).source words (arities c.hddl) S S' agree front e).same s.0 values g s.1 in
             (λ x. elim x [ inl y ↦ r.0 y | inr y ↦ absurd y ], λ x. inl (r.1 x))
 
     deletes : (e : Effect) (values : List ℕ) (g : GroundAtom) → IsSoundChange c e → OneTrue (λ x v. Deletes InP S' x v g) (source_change c p.names b Adl (length front) e) (front ++ values) ↔ Deletes InC S e values g
@@ -123,7 +123,7 @@ module _ (h : Hddl) (mode : Checks) (c : Compiled) (b : ℕ) (p : Pddl) (is : Is
         go : (t : Bool) → is_empty_effect e ≡ t → OneTrue (λ x v. Deletes InP S' x v g) (cond t [] (source_effect p.names c.hddl.names (length front) e ∷ [])) (front ++ values) ↔ Deletes InC S e values g
         go true f = (λ x. absurd x, λ x. empty_deletes InC S values e g f x)
         go false f =
-            let r = (deletes-source p.names c.hddl.names InC InP (source_types h mode c b p is) words (arities c.hddl) S S' agree front e).same s.0 values g s.1 in
+            let r = (deletes-source p.names c.hddl.names InC InP (stack_types_agree h mode c b p is).source words (arities c.hddl) S S' agree front e).same s.0 values g s.1 in
             (λ x. elim x [ inl y ↦ r.0 y | inr y ↦ absurd y ], λ x. inl (r.1 x))
 
     source_meaning : SourceMeaning c b Adl p S S' front
@@ -132,8 +132,8 @@ module _ (h : Hddl) (mode : Checks) (c : Compiled) (b : ℕ) (p : Pddl) (is : Is
       condition = condition;
       adds = adds;
       deletes = deletes;
-      adds_source = λ e values g s a. below g ((adds-source p.names c.hddl.names InC InP (source_types h mode c b p is) words (arities c.hddl) S S' agree front e).below s.0 values g s.1 a);
-      deletes_source = λ e values g s a. below g ((deletes-source p.names c.hddl.names InC InP (source_types h mode c b p is) words (arities c.hddl) S S' agree front e).below s.0 values g s.1 a);
+      adds_source = λ e values g s a. below g ((adds-source p.names c.hddl.names InC InP (stack_types_agree h mode c b p is).source words (arities c.hddl) S S' agree front e).below s.0 values g s.1 a);
+      deletes_source = λ e values g s a. below g ((deletes-source p.names c.hddl.names InC InP (stack_types_agree h mode c b p is).source words (arities c.hddl) S S' agree front e).below s.0 values g s.1 a);
     }
 
   pub source_agrees : SourceAgrees c b Adl p

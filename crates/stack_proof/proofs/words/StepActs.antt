@@ -3,6 +3,7 @@
 use Rattle.std.proofs.Common.{ℕ, zero, suc, ◌≡◌, ◌+◌, ◌-◌, ◌<◌, ◌≤◌, List, [], ◌∷◌, ◌++◌, map, length, slice_get, Some, refl, ap, sym, subst, ◌∙◌, arith}
 use Rattle.std.proofs.lemmas.List.{length-map}
 use Rattle.htn_base.specs.Escapes.{slot_word}
+use Rattle.plan_model.specs.declared.options.Style.TheVariants.{Adl}
 use Rattle.plan_model.specs.declared.options.Checks.{Checks}
 use Rattle.plan_model.specs.declared.schemas.ActionSchema.{ActionSchema}
 use Rattle.plan_model.specs.declared.schemas.MethodPlan.{MethodPlan}
@@ -21,16 +22,17 @@ use Rattle.plan_model.specs.plan_meaning.ClassicalPlan.{AreObjects, IsApplicable
 use Rattle.plan_model.specs.plan_meaning.SpelledPlan.{object_word, work_name, method_name}
 use Rattle.slot_encoding.specs.SourceParts.{source_param}
 use Rattle.slot_encoding.proofs.places.ListPlaces.{get_within, get_contains, append_same}
+use Rattle.slot_encoding.proofs.places.ActionPlaces.{check_place, action_place}
 use Rattle.slot_encoding.proofs.places.Predicates.{is_checked, passed_once, passed_within}
 use Rattle.stack_machine.specs.Stack.{AreCellsFrom}
 use Rattle.stack_encoding.specs.StackNames.{cell_object}
 use Rattle.stack_encoding.specs.StackActions.{stack_method, stack_check, stack_action}
 use Rattle.stack_encoding.specs.StackSpelling.{cells_of, stack_step}
-use Rattle.stack_encoding.specs.StackPrinted.{IsPrintedStack}
+use Rattle.stack_encoding.proofs.places.StackWorded.{IsStackWorded}
 use Rattle.stack_proof.proofs.machine.StackReading.{IsCell, IsActBy}
 use Rattle.stack_proof.proofs.words.Cells.{IsNumber, same_cells, put_together}
 use Rattle.stack_proof.proofs.words.CellWords.{same_objects, worded}
-use Rattle.stack_proof.proofs.words.Actions.{check_place, action_place, method_at, check_at, action_at}
+use Rattle.stack_encoding.proofs.places.StackPlaces.{method_at, check_at, action_at}
 use Rattle.stack_proof.proofs.words.ActionNames.{IsNamed, same_action, method_named, check_named, action_named, cell_params, method_params_are, length-cells, are_cells}
 use Rattle.stack_proof.proofs.words.Lines.{one_row}
 use Rattle.stack_proof.proofs.words.StepWords.{cells_within, plan_line, method_step}
@@ -51,7 +53,7 @@ as_long j k n = length-rows j n ∙ sym (length-rows k n)
     length-rows j zero = refl
     length-rows j (suc n) = ap suc (length-numbers (suc j) n)
 
-module _ (h : Hddl) (mode : Checks) (c : Compiled) (b : ℕ) (p : Pddl) (is : IsPrintedStack h mode c b p) where
+module _ (h : Hddl) (mode : Checks) (c : Compiled) (b : ℕ) (p : Pddl) (is : IsStackWorded h mode c b p) where
   abbrev InP : ℕ → ℕ → Type 0
   InP = Printed.InTypeOf p
 
@@ -79,8 +81,8 @@ module _ (h : Hddl) (mode : Checks) (c : Compiled) (b : ℕ) (p : Pddl) (is : Is
   -- the place of an act's action
   abbrev pub place_of : Act (network c) → ℕ
   place_of (apply k new g) = g.number
-  place_of (run k (check m values)) = check_place c p.names b m
-  place_of (run k (action n args)) = action_place c p.names b n
+  place_of (run k (check m values)) = check_place c p.names b Adl m
+  place_of (run k (action n args)) = action_place c p.names b Adl n
   place_of (run k (task t args)) = 0
 
   -- an act's action, with its word, cells and objects
@@ -110,20 +112,20 @@ module _ (h : Hddl) (mode : Checks) (c : Compiled) (b : ℕ) (p : Pddl) (is : Is
   shown (run k (check m values)) a os r =
       let ks = cells_of k 0 in
       let front = cell_params h mode c b p is 0 in
-      let named = check_named h mode c b p is m (check_place c p.names b m) r.plan values r.is (check_at c p.names b m r.plan r.is r.checked) in
+      let named = check_named h mode c b p is m (check_place c p.names b Adl m) r.plan values r.is (check_at c p.names b m r.plan r.is r.checked) in
       let typed = put_together h mode c b p is front r.plan.schema.params ks values (are_cells h mode c b p is 0) refl (row k r.cell) r.typed in
       record {
-        named = subst (λ z. IsNamed h mode c b p is (check_place c p.names b m) z (work_name c (check m values))) (sym r.action) named;
+        named = subst (λ z. IsNamed h mode c b p is (check_place c p.names b Adl m) z (work_name c (check m values))) (sym r.action) named;
         objects = subst (λ z. AreObjects p z (args_of ks values)) (sym r.objects) (worded h mode c b p is ks values r.plan.schema.params (row k r.cell) r.typed);
         typed = subst (λ (z : ActionSchema). AreTyped InP z.params os) (sym r.action) (subst (AreTyped InP (checking m r.plan).params) (sym r.objects) typed);
       }
   shown (run k (action n args)) a os r =
       let ks = cells_of k 0 in
       let front = cell_params h mode c b p is 0 in
-      let named = action_named h mode c b p is n (action_place c p.names b n) r.schema args r.is (action_at c p.names b n r.schema r.is) in
+      let named = action_named h mode c b p is n (action_place c p.names b Adl n) r.schema args r.is (action_at c p.names b n r.schema r.is) in
       let typed = put_together h mode c b p is front r.schema.params ks args (are_cells h mode c b p is 0) refl (row k r.cell) r.typed in
       record {
-        named = subst (λ z. IsNamed h mode c b p is (action_place c p.names b n) z (work_name c (action n args))) (sym r.action) named;
+        named = subst (λ z. IsNamed h mode c b p is (action_place c p.names b Adl n) z (work_name c (action n args))) (sym r.action) named;
         objects = subst (λ z. AreObjects p z (args_of ks args)) (sym r.objects) (worded h mode c b p is ks args r.schema.params (row k r.cell) r.typed);
         typed = subst (λ (z : ActionSchema). AreTyped InP z.params os) (sym r.action) (subst (AreTyped InP (acting n r.schema).params) (sym r.objects) typed);
       }

@@ -34,11 +34,11 @@ use Rattle.stack_encoding.specs.StackNames.{cell_object}
 use Rattle.stack_encoding.specs.StackActions.{stack_method, stack_check, stack_action, method_params, method_pre}
 use Rattle.stack_encoding.specs.StackValue.{stack_actions}
 use Rattle.stack_encoding.specs.StackSpelling.{cells_of, stack_step}
-use Rattle.stack_encoding.specs.StackPrinted.{IsPrintedStack}
+use Rattle.stack_encoding.proofs.places.StackWorded.{IsStackWorded}
 use Rattle.stack_proof.proofs.machine.StackReading.{IsCell, Reads, IsActBy}
 use Rattle.stack_proof.proofs.words.Cells.{IsNumber, Taken, take_apart, put_together}
 use Rattle.stack_proof.proofs.words.CellWords.{same_words, worded}
-use Rattle.stack_proof.proofs.words.Actions.{check_place, action_place, method_at, check_at, action_at, IsOfMethod, IsOfCheck, IsOfAction, action_cases}
+use Rattle.stack_encoding.proofs.places.StackPlaces.{method_at, check_at, action_at, IsOfMethod, IsOfCheck, IsOfAction, action_cases}
 use Rattle.stack_proof.proofs.words.ActionNames.{IsNamed, method_named, check_named, action_named, cell_params, method_params_are, length-cells, are_cells}
 use Rattle.stack_proof.proofs.words.Rows.{IsBottomEmpty, fallen, HasCells, method_cells}
 use Rattle.stack_proof.proofs.words.Lines.{line_of, line_cells, are_line_cells}
@@ -52,7 +52,7 @@ cells_within b h (suc n) l m r = (m, rest (suc h) n (omega arith))
     rest h zero r = tt
     rest h (suc n) r = (omega arith, rest (suc h) n (omega arith))
 
-module _ (h : Hddl) (mode : Checks) (c : Compiled) (b : ℕ) (p : Pddl) (is : IsPrintedStack h mode c b p) where
+module _ (h : Hddl) (mode : Checks) (c : Compiled) (b : ℕ) (p : Pddl) (is : IsStackWorded h mode c b p) where
   abbrev InC : ℕ → ℕ → Type 0
   InC = InTypeOf c
 
