@@ -10,6 +10,7 @@ pub mod TipActions
 pub mod Asked
 pub mod ChildCells
 pub mod Climbing
+pub mod ClimbingEffects
 pub mod MethodStates
 pub mod TipMethods
 -- Runs and plans.

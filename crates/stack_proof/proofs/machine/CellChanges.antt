@@ -1,5 +1,5 @@
 -- What is held goes, works come into cells, and the tip goes from one cell to another.
-use Rattle.std.proofs.Common.{ℕ, ◌≡◌, ◌↔◌, ◌⊎◌, ◌<◌, ◌≤◌, inl, inr, List, length, refl, ap, sym, subst, ◌∙◌, Contains, suc, arith}
+use Rattle.std.proofs.Common.{ℕ, ◌≡◌, ◌↔◌, ◌⊎◌, ◌<◌, ◌≤◌, inl, inr, List, length, refl, ap, sym, subst, ◌∙◌, Contains, arith}
 use Rattle.plan_model.specs.declared.terms.GroundAtom.{GroundAtom}
 use Rattle.plan_model.specs.declared.effects.Effect.{Effect}
 use Rattle.plan_model.specs.declared.values.Compiled.{Compiled}
@@ -13,7 +13,6 @@ use Rattle.slot_encoding.proofs.Pieces.{PredicatesDiffer}
 use Rattle.plan_proof.proofs.machine.Reading.{IsKnown, Keeps}
 use Rattle.plan_proof.proofs.machine.Freed.{Changed}
 use Rattle.stack_machine.specs.StackMachine.{StackState, AreSameStacks}
-use Rattle.stack_encoding.specs.StackNames.{tip_predicate, up_predicate, cell_object}
 use Rattle.stack_proof.proofs.machine.StackReading.{IsCell, held, tip_atom, up_atom, Reads}
 use Rattle.stack_proof.proofs.machine.CellAtoms.{held_tip, held_up, tip_up, same_held, same_tip, source_held, source_tip, source_up, behind_held, behind_tip, behind_source}
 

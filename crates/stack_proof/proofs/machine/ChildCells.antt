@@ -1,5 +1,5 @@
 -- The cells of a method's children: its own and those above it, by how many stand after a child in the line.
-use Rattle.std.proofs.Common.{ℕ, suc, ◌≡◌, ◌↔◌, ◌+◌, ◌<◌, ◌≤◌, List, length, map, slice_get, Some, refl, ap, sym, subst, ◌∙◌, arith}
+use Rattle.std.proofs.Common.{ℕ, suc, ◌≡◌, ◌↔◌, ◌+◌, ◌<◌, ◌≤◌, List, length, map, slice_get, Some, ap, sym, subst, ◌∙◌, arith}
 use Rattle.std.proofs.lemmas.List.{length-map}
 use Rattle.plan_model.specs.declared.schemas.MethodPlan.{MethodPlan}
 use Rattle.plan_model.specs.declared.values.Compiled.{Compiled}
@@ -7,13 +7,13 @@ use Rattle.plan_model.specs.declared.values.Pddl.{Pddl}
 use Rattle.plan_model.specs.Pairs.{Pairs}
 use Rattle.plan_model.specs.task_networks.Order.{IsLine}
 use Rattle.plan_model.specs.task_networks.Net.{Net, count}
-use Rattle.plan_model.specs.task_networks.Spelling.{numbers, others}
+use Rattle.plan_model.specs.task_networks.Spelling.{numbers}
 use Rattle.plan_model.specs.plan_meaning.Network.{GroundMethod, network, child_of}
 use Rattle.plan_model.proofs.plan_meaning.MethodParts.{works_by, IsPairBy}
 use Rattle.slot_machine.specs.Machine.{with_heir, IsSlotOf}
 use Rattle.slot_machine.proofs.OtherChildren.{with-heir_others, get_number}
 use Rattle.stack_machine.specs.Stack.{behind, AreCellsFrom}
-use Rattle.stack_machine.proofs.Heights.{high, heights, high_of, heir_lowest}
+use Rattle.stack_machine.proofs.Heights.{heights, high_of, heir_lowest}
 use Rattle.stack_proof.proofs.machine.StackReading.{IsCell}
 use Rattle.stack_proof.proofs.machine.StackFacts.{StackPieces}
 

@@ -1,5 +1,5 @@
 -- What the parts say that actions have in whose place nothing comes: their cell is the tip, and then the cell below is.
-use Rattle.std.proofs.Common.{ℕ, suc, ◌≡◌, ◌↔◌, ◌⊎◌, ◌-◌, inl, inr, List, [], ◌∷◌, ◌++◌, refl, ap, sym, subst, ◌∙◌, arith}
+use Rattle.std.proofs.Common.{ℕ, ◌≡◌, ◌↔◌, ◌⊎◌, ◌-◌, inl, inr, List, ◌∷◌, ◌++◌, ap, sym, subst, arith}
 use Rattle.plan_model.specs.declared.terms.Atom.{Atom}
 use Rattle.plan_model.specs.declared.terms.GroundAtom.{GroundAtom}
 use Rattle.plan_model.specs.declared.formulas.Formula.{Formula}
@@ -13,7 +13,6 @@ use Rattle.plan_model.specs.plan_meaning.ClassicalPlan as Printed
 use Rattle.plan_model.specs.plan_meaning.Network.{network}
 use Rattle.plan_model.proofs.plan_meaning.TruthEquations.{truth-And, truth-Holds}
 use Rattle.plan_model.proofs.plan_meaning.EffectEquations.{adds-And, adds-Add, adds-Delete, deletes-And, deletes-Add, deletes-Delete}
-use Rattle.slot_encoding.proofs.places.Sums.{each-append, one-append}
 use Rattle.stack_machine.specs.StackMachine.{StackState}
 use Rattle.stack_encoding.specs.StackNames.{cell_object}
 use Rattle.stack_encoding.specs.StackActions.{is_tip, is_up, at_tip, falling}

@@ -1,5 +1,5 @@
 -- How the state reads after a method: its children are in their cells, and the tip is that of the line's first child, or the cell below.
-use Rattle.std.proofs.Common.{ℕ, zero, suc, ◌≡◌, ◌↔◌, ◌⊎◌, ◌+◌, ◌-◌, ◌<◌, ◌≤◌, inl, inr, List, [], ◌∷◌, ◌++◌, map, length, slice_get, Some, refl, ap, sym, subst, ◌∙◌, Contains, arith}
+use Rattle.std.proofs.Common.{ℕ, zero, suc, ◌≡◌, ◌↔◌, ◌⊎◌, ◌+◌, ◌-◌, ◌<◌, ◌≤◌, inl, inr, List, [], ◌∷◌, ◌++◌, map, length, slice_get, Some, refl, ap, subst, ◌∙◌, Contains, arith}
 use Rattle.std.proofs.Math.Decide.{ℕ_discrete}
 use Rattle.std.proofs.lemmas.Option.{slice_get_within}
 use Rattle.plan_model.specs.declared.terms.Atom.{Atom}
@@ -31,7 +31,8 @@ use Rattle.stack_proof.proofs.machine.CellChanges.{reads_alike, moved, effect_re
 use Rattle.stack_proof.proofs.machine.Fallen.{fallen, fallen_reads, fallen_keeps}
 use Rattle.stack_proof.proofs.machine.Asked.{task_ground}
 use Rattle.stack_proof.proofs.machine.ChildCells.{child_in_range}
-use Rattle.stack_proof.proofs.machine.Climbing.{xs, Comes, climbing_adds, climbing_deletes}
+use Rattle.stack_proof.proofs.machine.Climbing.{xs}
+use Rattle.stack_proof.proofs.machine.ClimbingEffects.{Comes, climbing_adds, climbing_deletes}
 
 module _ (c : Compiled) (b : ℕ) (p : Pddl) (means : StackPieces c b p) (S : State) (t : StackState (network c)) (T : State) (r : Reads c b p S t T)
     (h : ℕ) (new : List ℕ) (g : GroundMethod) (plan : MethodPlan) (is : slice_get c.methods g.number ≡ Some plan) (typed : AreTyped (InTypeOf c) plan.schema.params g.values)

@@ -1,6 +1,5 @@
 -- The printed action of a method is a step of the stack.
-use Rattle.std.proofs.Common.{ℕ, zero, suc, ◌≡◌, ◌↔◌, ◌+◌, ◌-◌, ◌≤◌, List, [], ◌∷◌, ◌++◌, map, length, slice_get, Some, refl, ap, sym, subst, ◌∙◌, arith}
-use Rattle.plan_model.specs.declared.terms.Atom.{Atom}
+use Rattle.std.proofs.Common.{ℕ, zero, suc, ◌≡◌, ◌↔◌, ◌+◌, ◌-◌, ◌≤◌, List, [], ◌∷◌, ◌++◌, map, length, slice_get, Some, refl, sym, subst, arith}
 use Rattle.plan_model.specs.declared.formulas.Formula.TheVariants.{And}
 use Rattle.plan_model.specs.declared.schemas.ActionSchema.{ActionSchema}
 use Rattle.plan_model.specs.declared.schemas.MethodPlan.{MethodPlan}
@@ -8,7 +7,7 @@ use Rattle.plan_model.specs.declared.values.Compiled.{Compiled}
 use Rattle.plan_model.specs.declared.values.Pddl.{Pddl}
 use Rattle.plan_model.specs.task_networks.Net.{Net, count}
 use Rattle.plan_model.specs.task_networks.Spelling.{apply}
-use Rattle.plan_model.specs.plan_meaning.Truth.{State, ground, EachTrue, IsTrueIn}
+use Rattle.plan_model.specs.plan_meaning.Truth.{State, EachTrue, IsTrueIn}
 use Rattle.plan_model.specs.plan_meaning.ClassicalPlan as Printed
 use Rattle.plan_model.specs.plan_meaning.Network.{GroundMethod, IsGroundMethod, network}
 use Rattle.plan_model.specs.plan_meaning.Solution.{AllowsMethod}
