@@ -21,6 +21,7 @@ module _ (c : Compiled) (b : ℕ) (p : Pddl) where
   pub reads_alike : (S S' : State) (t t' : StackState (network c)) (T T' : State) → ((g : GroundAtom) → S g ↔ S' g) → AreSameStacks (network c) t t' → ((g : GroundAtom) → T g ↔ T' g) → Reads c b p S t T → Reads c b p S' t' T'
   reads_alike S S' t t' T T' s m q r = record {
     holds = λ x w. (let h = r.holds x w in let a = m.holds x w in let e = s (held c b p x w) in (λ k. (let z = h.0 (a.1 k) in (z.0, z.1, e.0 z.2)), λ z. a.0 (h.1 (z.0, z.1, e.1 z.2))));
+    bottom = λ w k z. r.bottom w k ((s (held c b p 0 w)).1 z);
     tip = λ x. (let h = r.tip x in let a = m.tip x in let e = s (tip_atom c b p x) in (λ k. (let z = h.0 (a.1 k) in (z.0, e.0 z.1)), λ z. a.0 (h.1 (z.0, e.1 z.1))));
     source = λ g l. (let h = r.source g l in (λ k. (q g).0 (h.0 ((s g).1 k)), λ k. (s g).0 (h.1 ((q g).1 k))));
     guards = λ ty o k. (let h = r.guards ty o k in let e = s (atom (guard_predicate c ty) o) in (λ z. h.0 (e.1 z), λ z. e.0 (h.1 z)));
@@ -62,6 +63,12 @@ module _ (c : Compiled) (b : ℕ) (p : Pddl) where
             inr (subst (λ z. K z v) (sym f.0) (subst (K y) (sym f.1) l))
         from (k, s, inr (inr (inl e))) = absurd (held_tip c b p d x e.0 v k e.2)
         from (k, s, inr (inr (inr a))) = absurd (source_held c b p d x v k (source_A (held c b p x v) a))
+
+    moved_bottom : (v : Work) → IsKnown c v → S' (held c b p 0 v) → ⊥
+    moved_bottom v k (inl (q, n)) = r.bottom v k q
+    moved_bottom v k (inr (inl (y, u, l, e))) = let f = same_held c b p d 0 y v u k (new y u l).0 e in let g = (new y u l).1.0 in omega (arith, f.0)
+    moved_bottom v k (inr (inr (inl e))) = held_tip c b p d 0 e.0 v k e.2
+    moved_bottom v k (inr (inr (inr a))) = source_held c b p d 0 v k (source_A (held c b p 0 v) a)
 
     moved_tip : (x : ℕ) → moved.tip x ↔ ((x ≤ b) × S' (tip_atom c b p x))
     moved_tip x = (to, from)
@@ -133,6 +140,7 @@ module _ (c : Compiled) (b : ℕ) (p : Pddl) where
     moved_reads : Reads c b p S' moved (Changed T D A)
     moved_reads = record {
       holds = moved_holds;
+      bottom = moved_bottom;
       tip = moved_tip;
       source = moved_source;
       guards = moved_guards;

@@ -13,7 +13,7 @@ use Rattle.plan_model.specs.task_networks.Spelling.{numbers}
 use Rattle.plan_model.proofs.task_networks.Numbers.{length-numbers}
 use Rattle.plan_model.specs.plan_meaning.Truth.{State, EachTrue, IsTrueIn, values_of, ground}
 use Rattle.plan_model.specs.plan_meaning.ClassicalPlan as Printed
-use Rattle.plan_model.specs.plan_meaning.Network.{Work, task, network}
+use Rattle.plan_model.specs.plan_meaning.Network.{task, network}
 use Rattle.plan_model.proofs.plan_meaning.TruthEquations.{truth-And, truth-Holds}
 use Rattle.plan_texts.specs.Types.{EachIs}
 use Rattle.slot_encoding.specs.SourceParts.{moved}
@@ -51,10 +51,6 @@ numbers_within b h zero e = let l = e.0 in omega arith
 numbers_within b h (suc n) e = let l = numbers_within b (suc h) n e.1 in omega arith
 
 module _ (c : Compiled) (b : ℕ) (p : Pddl) where
-  -- cell 0 holds nothing
-  abbrev pub IsBottomEmpty : State → Type 0
-  IsBottomEmpty S = (w : Work) → IsKnown c w → S (held c b p 0 w) → ⊥
-
   module _ (S : State) (t : StackState (network c)) (T : State) (reads : Reads c b p S t T) where
     abbrev True : Formula → List ℕ → Type 0
     True = IsTrueIn (Printed.InTypeOf p) S
@@ -98,7 +94,7 @@ module _ (c : Compiled) (b : ℕ) (p : Pddl) where
         row_from k ks (λ i m. up_is i (suc i) (k ∷ ks) values e (omega arith) (omega arith) (each_up 0 n i (map (cell_object c) (k ∷ ks) ++ values) r (omega arith) (omega arith)))
         ∙ ap (λ z. numbers k (suc z)) l
 
-    module _ (empty : IsBottomEmpty S) (m : ℕ) (plan : MethodPlan) (known : (args : List ℕ) → IsKnown c (task plan.schema.task args)) where
+    module _ (m : ℕ) (plan : MethodPlan) (known : (args : List ℕ) → IsKnown c (task plan.schema.task args)) where
       -- the cells of a method
       abbrev pub HasCells : ℕ → List ℕ → Type 0
       HasCells n ks = (h : ℕ) × IsCell c b p h × (h + n ≤ suc b) × (ks ≡ cells_of h n)
@@ -118,7 +114,7 @@ module _ (c : Compiled) (b : ℕ) (p : Pddl) where
           positive = elim (ℕ_discrete h 0) [
             | yes f ↦ (
                 let args = values_of os (map (moved p.names c.hddl.names (suc n)) plan.schema.task_args) in
-                absurd (empty (task plan.schema.task args) (known args) (subst (λ z. S (held c b p z (task plan.schema.task args))) f (held_true (task_in c p.names (suc n) 0 plan) os all.0)))
+                absurd (reads.bottom (task plan.schema.task args) (known args) (subst (λ z. S (held c b p z (task plan.schema.task args))) f (held_true (task_in c p.names (suc n) 0 plan) os all.0)))
                 )
             | no f ↦ omega arith
           ]

@@ -40,7 +40,7 @@ use Rattle.stack_proof.proofs.words.Cells.{IsNumber, Taken, take_apart, put_toge
 use Rattle.stack_proof.proofs.words.CellWords.{same_words, worded}
 use Rattle.stack_encoding.proofs.places.StackPlaces.{method_at, check_at, action_at, IsOfMethod, IsOfCheck, IsOfAction, action_cases}
 use Rattle.stack_proof.proofs.words.ActionNames.{IsNamed, method_named, check_named, action_named, cell_params, method_params_are, length-cells, are_cells}
-use Rattle.stack_proof.proofs.words.Rows.{IsBottomEmpty, fallen, HasCells, method_cells}
+use Rattle.stack_proof.proofs.words.Rows.{fallen, HasCells, method_cells}
 use Rattle.stack_proof.proofs.words.Lines.{line_of, line_cells, are_line_cells}
 
 -- the cells that a step names are numbers of cells
@@ -138,7 +138,7 @@ module _ (h : Hddl) (mode : Checks) (c : Compiled) (b : ℕ) (p : Pddl) (is : Is
       let i = n.word in
       cc
 
-  module _ (S : State) (t : StackState (network c)) (T : State) (reads : Reads c b p S t T) (empty : IsBottomEmpty c b p S) (step : GroundAction) (a : ActionSchema) (os : List ℕ) (app : IsApplicable p S step a os) where
+  module _ (S : State) (t : StackState (network c)) (T : State) (reads : Reads c b p S t T) (step : GroundAction) (a : ActionSchema) (os : List ℕ) (app : IsApplicable p S step a os) where
     -- what is applicable with these parameters has objects of them
     parts : (d : ActionSchema) (front params : List Param) → a ≡ d → d.params ≡ front ++ map (source_param p.names c.hddl.names) params → EachIs (λ (x : Param). x.ty ≡ slot_type) front → Taken h mode c b p is front params os
     parts d front params i f e = take_apart h mode c b p is front params os e (subst (λ z. AreTyped InP z os) (ap (λ (z : ActionSchema). z.params) i ∙ f) app.typed)
@@ -152,7 +152,7 @@ module _ (h : Hddl) (mode : Checks) (c : Compiled) (b : ℕ) (p : Pddl) (is : Is
         let name = same_name k a (method m plan) step.name (method_name c m) i app.name (method_named h mode c b p is m k plan e (f ∙ ap Some i)) in
         let x = parts (method m plan) (cell_params h mode c b p is n) plan.schema.params i (method_params_are h mode c b p is m plan n) (are_cells h mode c b p is n) in
         let args = taken_args (cell_params h mode c b p is n) plan.schema.params os step.args x app.objects_are in
-        let (cell, within, room, r) = method_cells c b p S t T reads empty m plan (λ args. (fits h mode c is.sound is.compiled).tasks m plan e) n x.ks x.values (x.long ∙ sym (length-cells h mode c b p is 0 n)) x.cells (condition (method m plan) _ x.ks x.values i refl x.objects) in
+        let (cell, within, room, r) = method_cells c b p S t T reads m plan (λ args. (fits h mode c is.sound is.compiled).tasks m plan e) n x.ks x.values (x.long ∙ sym (length-cells h mode c b p is 0 n)) x.cells (condition (method m plan) _ x.ks x.values i refl x.objects) in
         let q = method_act m plan step.args os x.ks x.values cell e within room r x.typed x.objects args in
         subst (λ z. HasAct step z os) (sym i) (subst (λ z. HasAct (the_step z step.args) (method m plan) os) (sym name) q)
 
