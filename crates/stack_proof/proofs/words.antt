@@ -8,3 +8,4 @@ pub mod StepWords
 pub mod StepActs
 pub mod FirstGuards
 pub mod SourceMeanings
+pub mod FirstState
