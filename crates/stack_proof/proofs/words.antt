@@ -9,3 +9,4 @@ pub mod StepActs
 pub mod FirstGuards
 pub mod SourceMeanings
 pub mod FirstState
+pub mod StackPlans
