@@ -13,8 +13,7 @@ use Rattle.stack_encoding.specs.StackPrinted.{IsPrintedStack}
 use Rattle.stack_encoding.specs.StackSpelling.{IsStackSpelling}
 use Rattle.stack_proof.specs.OneTree.{EachTreeHasOneSpelling, EachTreeHasOnePlan}
 use Rattle.stack_proof.proofs.words.StackPlans.{stack_executables, stack_plans}
-use Rattle.stack_proof.proofs.spelling.Total.{lawful, is_total}
-use Rattle.stack_proof.proofs.spelling.Spelled.{within, spelled, one_for_tree, only_one}
+use Rattle.stack_proof.proofs.Spelled.{within, spelled, one_for_tree, only_one}
 
 -- where a form of spelling has one list for each tree, faithful texts have one plan for each
 pub one_plan : (Spelling : SpellingForm) (c : Compiled) (b : ℕ) (domain problem : List ℕ) → IsFaithfulBy Spelling c b domain problem → EachTreeHasOneSpelling Spelling c b → EachTreeHasOnePlan Spelling c b domain problem
@@ -28,12 +27,12 @@ module _ (h : Hddl) (mode : Checks) (c : Compiled) (b : ℕ) (p : Pddl) (ordered
     executable = stack_executables h mode c b p ordered is;
     plans = stack_plans h mode c b p ordered is;
     only_one = only_one h mode c b p ordered is;
-    within = within c (lawful h mode c ordered is.compiled) (is_total h mode c ordered is.compiled is.ordered) b;
-    spelled = spelled c (lawful h mode c ordered is.compiled) (is_total h mode c ordered is.compiled is.ordered) b;
+    within = within h mode c ordered is.compiled is.ordered b;
+    spelled = spelled h mode c ordered is.compiled is.ordered b;
   }
 
   pub stack_texts : IsFaithfulBy IsStackSpelling c b (domain_text p) (problem_text p)
   stack_texts = faithful_texts IsStackSpelling c b p is.printable stack_faithful
 
   pub stack_trees : EachTreeHasOnePlan IsStackSpelling c b (domain_text p) (problem_text p)
-  stack_trees = one_plan IsStackSpelling c b (domain_text p) (problem_text p) stack_texts (one_for_tree c (lawful h mode c ordered is.compiled) (is_total h mode c ordered is.compiled is.ordered) b)
+  stack_trees = one_plan IsStackSpelling c b (domain_text p) (problem_text p) stack_texts (one_for_tree h mode c ordered is.compiled is.ordered b)

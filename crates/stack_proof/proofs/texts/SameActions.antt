@@ -1,5 +1,5 @@
 -- Compiled values that are the same but for names have the same printed actions of a stack.
-use Rattle.std.proofs.Common.{ℕ, zero, suc, ◌≡◌, cond, List, [], ◌∷◌, ◌++◌, map, length, codes, decimal, refl, ap, sym, ◌∙◌}
+use Rattle.std.proofs.Common.{ℕ, zero, suc, ◌≡◌, cond, List, [], ◌∷◌, ◌++◌, map, length, codes, decimal, refl, ap, ◌∙◌}
 use Rattle.htn_base.specs.Escapes.{escaped}
 use Rattle.text_forms.specs.Words.{Word}
 use Rattle.plan_texts.specs.Declared.{Declared}
@@ -30,13 +30,12 @@ use Rattle.plan_model.specs.declared.values.Compiled.{Compiled}
 use Rattle.plan_model.specs.task_networks.Spelling.{numbers}
 use Rattle.slot_encoding.specs.SourceParts.{name, moved, source_param}
 use Rattle.slot_encoding.specs.EncodedNames.{task_predicate, slot_param}
-use Rattle.slot_encoding.specs.MethodParts.{test, condition_part, change_part, task_in, child_in, children_in, constraint_parts, guard_parts, tested_part}
+use Rattle.slot_encoding.specs.MethodParts.{test, condition_part, change_part, task_in, child_in, children_in}
 use Rattle.plan_proof.specs.Same.{AreSameButNames}
 use Rattle.plan_proof.proofs.values.TypeNumbers.{AreApart}
 use Rattle.plan_proof.proofs.values.SameTypes.{empty-effect-same, params-printed, effect-printed}
 use Rattle.plan_proof.proofs.values.SameActions.{Alike, guard-same, condition-same}
 use Rattle.stack_machine.specs.Stack.{behind}
-use Rattle.stack_encoding.specs.StackNames.{tip_predicate, up_predicate}
 use Rattle.stack_encoding.specs.StackActions.{is_tip, is_up, at_tip, falling, held_at_tip, tip_action, stack_action, stack_check, asked, rising, child_cells, climbing, method_params, method_pre, method_eff, method_word, stack_method}
 use Rattle.stack_encoding.specs.StackValue.{stack_methods, stack_checks, stack_source, stack_actions}
 use Rattle.stack_proof.proofs.texts.SameNames.{tip-same, up-same, task-same, action-same, check-same}

@@ -1,5 +1,5 @@
 -- Compiled values that are the same but for names have the same printed types, objects and predicates, with slots and with cells.
-use Rattle.std.proofs.Common.{ℕ, zero, suc, ◌≡◌, ◌+◌, cond, ◌==◌, true, List, [], ◌∷◌, ◌++◌, map, length, codes, take, drop, refl, ap, sym, subst, ◌∙◌, append_assoc, append-nil}
+use Rattle.std.proofs.Common.{ℕ, suc, ◌≡◌, ◌+◌, cond, ◌==◌, true, List, [], ◌∷◌, ◌++◌, map, length, codes, take, drop, ap, sym, subst, ◌∙◌, append_assoc, append-nil}
 use Rattle.std.proofs.lemmas.List.{length-map}
 use Rattle.htn_base.specs.Escapes.{slot_word}
 use Rattle.plan_texts.specs.SpellsHddl.{hddl_words}

@@ -21,7 +21,6 @@ use Rattle.plan_proof.proofs.values.TypeNumbers.{AreApart}
 use Rattle.plan_proof.proofs.values.SameTypes.{in_same}
 use Rattle.plan_proof.proofs.values.SamePlans.{keeps-more}
 use Rattle.plan_proof.proofs.values.SameActions.{Alike, predicates-count, objects-count, guard_types-same, guard-same, condition-same}
-use Rattle.stack_encoding.specs.StackNames.{cell_object}
 use Rattle.stack_encoding.specs.StackValue.{first_atoms, IsInitial, IsStackEncoded}
 use Rattle.stack_proof.proofs.texts.SameNames.{types-printed, objects-printed, predicates-printed}
 use Rattle.stack_proof.proofs.texts.SameActions.{actions-printed}

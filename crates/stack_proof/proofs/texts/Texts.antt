@@ -15,7 +15,7 @@ use Rattle.stack_encoding.specs.StackValue.{IsStackEncoded}
 use Rattle.stack_encoding.specs.StackWords.{stack_words, HasStackWords}
 use Rattle.stack_encoding.specs.TotalOrder.{IsTotallyOrdered}
 use Rattle.stack_encoding.proofs.StackOver.{some_stack, has_stack_value}
-use Rattle.stack_proof.proofs.words.StackPlans.{stack_texts-same}
+use Rattle.stack_proof.proofs.texts.Stub.{stack_texts-same}
 use Rattle.stack_proof.specs.StackTexts.{AreStackTexts, HaveStackTexts}
 use Rattle.stack_proof.proofs.texts.SamePrinted.{stack_encoded_by}
 

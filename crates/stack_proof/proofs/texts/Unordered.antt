@@ -1,5 +1,5 @@
 -- All methods are totally ordered, or one is the first that is not.
-use Rattle.std.proofs.Common.{ℕ, zero, suc, ◌≡◌, ◌<◌, ◌⊎◌, inl, inr, List, [], ◌∷◌, length, slice_get, Some, take, drop, refl, sym, subst, Contains, arith}
+use Rattle.std.proofs.Common.{ℕ, zero, suc, ◌≡◌, ◌<◌, ◌⊎◌, inl, inr, List, [], ◌∷◌, length, slice_get, Some, take, drop, refl, subst, Contains, arith}
 use Rattle.plan_model.specs.declared.schemas.MethodPlan.{MethodPlan}
 use Rattle.plan_model.specs.declared.values.Compiled.{Compiled}
 use Rattle.plan_model.specs.Pairs.{Pairs}
@@ -9,8 +9,8 @@ use Rattle.plan_model.proofs.net_order.Closures.{decide_chain}
 use Rattle.plan_model.proofs.task_networks.Lists.{not-in_empty, Contains-here, Contains-later, head_or_tail}
 use Rattle.plan_model.proofs.task_networks.Numbers.{numbers_to, to_numbers}
 use Rattle.schedules.proofs.ruled.LowestRule.{by_order}
-use Rattle.slot_encoding.proofs.places.ListPlaces.{get_contains, contains_get}
-use Rattle.stack_encoding.specs.TotalOrder.{IsOneAfterAnother, IsTotallyOrdered, IsFirstUnordered}
+use Rattle.slot_encoding.proofs.places.ListPlaces.{contains_get}
+use Rattle.stack_encoding.specs.TotalOrder.{IsOneAfterAnother, IsFirstUnordered}
 use Rattle.stack_proof.specs.OrderedAlike.{IsOrderedOrHasOneFirst}
 
 -- it is decided

@@ -1,4 +1,0 @@
-pub mod Total
-pub mod Plain
-pub mod OneAct
-pub mod Spelled
