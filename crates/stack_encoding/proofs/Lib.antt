@@ -1,3 +1,4 @@
 pub mod places
 pub mod StackOver
 pub mod words
+pub mod said

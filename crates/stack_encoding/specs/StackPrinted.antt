@@ -27,3 +27,8 @@ pub record HasStackValue (c : Compiled) (b : ℕ) : Type 0 where
   pub encoded : IsStackEncoded c b value
   pub words : HasStackWords c b value.names
   pub differ : AreDifferent value.names
+
+-- what is encoded of the compiled value over a table with all its words
+pub record IsFullyStackEncoded (c : Compiled) (b : ℕ) (p : Pddl) : Type 0 where
+  pub encoded : IsStackEncoded c b p
+  pub words : HasStackWords c b p.names

@@ -1,5 +1,6 @@
 -- Lists made of another by a function that is told each item's place, from a number on: of all items, and of those alone that pass a test.
-use Rattle.std.proofs.Common.{ℕ, zero, suc, ◌≡◌, ◌+◌, Bool, true, false, cond, List, [], ◌∷◌, filter, take, length, slice_get, Some, refl, ap, sym, ◌∙◌, arith}
+use Rattle.std.proofs.Common.{ℕ, zero, suc, ◌≡◌, ◌+◌, Bool, true, false, cond, List, [], ◌∷◌, filter, take, length, slice_get, Some, refl, ap, sym, subst, ◌∙◌, arith}
+use Rattle.plan_texts.specs.Together.{Together}
 
 module _ {A B : Type 0} (f : ℕ → A → B) where
   abbrev pub numbered : ℕ → List A → List B
@@ -66,3 +67,39 @@ module _ {A B : Type 0} (f : ℕ → A → B) where
         go true t zero rest g = (0, x, refl, t, (let h : f m x ≡ y = cc in sym h) ∙ here m x)
         go true t (suc k) rest g = later (rest k g)
         go false t k rest g = later (rest k g)
+
+-- two lists made of one go together where what is made at each place does
+module _ {A B C : Type 0} (R : B → C → Type 0) (f : ℕ → A → B) (g : ℕ → A → C) where
+  abbrev Goes : ℕ → List A → Type 0
+  Goes m xs = (j : ℕ) (x : A) → slice_get xs j ≡ Some x → R (f (m + j) x) (g (m + j) x)
+
+  next : (m : ℕ) (y : A) (xs : List A) → Goes m (y ∷ xs) → Goes (suc m) xs
+  next m y xs h j x e = let n : m + suc j ≡ suc m + j = omega arith in subst (λ k. R (f k x) (g k x)) n (h (suc j) x e)
+
+  now : (m : ℕ) (y : A) (xs : List A) → Goes m (y ∷ xs) → R (f m y) (g m y)
+  now m y xs h = let n : m + 0 ≡ m = omega arith in subst (λ k. R (f k y) (g k y)) n (h 0 y refl)
+
+  together-numbered : (m : ℕ) (xs : List A) → ((j : ℕ) (x : A) → slice_get xs j ≡ Some x → R (f (m + j) x) (g (m + j) x)) → Together R (numbered f m xs) (numbered g m xs)
+  together-numbered m [] h = tt
+  together-numbered m (y ∷ xs) h = (now m y xs h, together-numbered (suc m) xs (next m y xs h))
+
+  pub together-from_zero : (xs : List A) → ((j : ℕ) (x : A) → slice_get xs j ≡ Some x → R (f j x) (g j x)) → Together R (numbered f 0 xs) (numbered g 0 xs)
+  together-from_zero xs h = together-numbered 0 xs (λ j x e. let n : j ≡ 0 + j = omega arith in subst (λ k. R (f k x) (g k x)) n (h j x e))
+
+  module _ (test : A → Bool) where
+    abbrev Passes : ℕ → List A → Type 0
+    Passes m xs = (j : ℕ) (x : A) → slice_get xs j ≡ Some x → test x ≡ true → R (f (m + j) x) (g (m + j) x)
+
+    together-passing : (m : ℕ) (xs : List A) → ((j : ℕ) (x : A) → slice_get xs j ≡ Some x → test x ≡ true → R (f (m + j) x) (g (m + j) x)) → Together R (passing f test m xs) (passing g test m xs)
+    together-passing m [] h = tt
+    together-passing m (y ∷ xs) h = go (test y) refl (together-passing (suc m) xs rest)
+      where
+        rest : Passes (suc m) xs
+        rest j x e t = let n : m + suc j ≡ suc m + j = omega arith in subst (λ k. R (f k x) (g k x)) n (h (suc j) x e t)
+
+        go : (q : Bool) → test y ≡ q → Together R (passing f test (suc m) xs) (passing g test (suc m) xs) → Together R (cond q (f m y ∷ passing f test (suc m) xs) (passing f test (suc m) xs)) (cond q (g m y ∷ passing g test (suc m) xs) (passing g test (suc m) xs))
+        go true t r = (let n : m + 0 ≡ m = omega arith in subst (λ k. R (f k y) (g k y)) n (h 0 y refl t), r)
+        go false t r = r
+
+    pub passing-from_zero : (xs : List A) → ((j : ℕ) (x : A) → slice_get xs j ≡ Some x → test x ≡ true → R (f j x) (g j x)) → Together R (passing f test 0 xs) (passing g test 0 xs)
+    passing-from_zero xs h = together-passing 0 xs (λ j x e t. let n : j ≡ 0 + j = omega arith in subst (λ k. R (f k x) (g k x)) n (h j x e t))

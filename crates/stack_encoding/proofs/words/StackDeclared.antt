@@ -1,9 +1,7 @@
 -- The words of the printed problem of a stack, as declared; how many arguments its predicates have; what they have of the source's.
-use Rattle.std.proofs.Common.{ℕ, suc, ◌≡◌, ◌+◌, ◌<◌, List, [], ◌∷◌, ◌++◌, map, length, slice_index, codes, refl, ap, sym, subst, ◌∙◌, arith}
-use Rattle.htn_base.specs.declared.name.Name.{Name}
+use Rattle.std.proofs.Common.{ℕ, suc, ◌≡◌, ◌<◌, List, [], ◌∷◌, map, length, slice_index, codes, ap, sym, ◌∙◌, arith}
 use Rattle.text_forms.specs.Words.{Word}
 use Rattle.plan_model.specs.declared.types.Object.{Object}
-use Rattle.plan_model.specs.declared.terms.Param.{Param}
 use Rattle.plan_model.specs.declared.schemas.Predicate.{Predicate}
 use Rattle.plan_model.specs.declared.values.Compiled.{Compiled}
 use Rattle.plan_texts.specs.Declared.{Declared, named, words_with}
@@ -18,7 +16,7 @@ use Rattle.slot_encoding.proofs.words.SourceFormulas.{AreExtended}
 use Rattle.slot_encoding.proofs.words.TypeWords.{kinds_on}
 use Rattle.stack_encoding.specs.StackNames.{cell_object, stack_objects, stack_predicates}
 use Rattle.stack_encoding.proofs.places.CellPlaces.{length-objects}
-use Rattle.stack_encoding.proofs.words.Appended.{appended, map-appended}
+use Rattle.stack_encoding.proofs.words.Appended.{map-appended}
 
 module _ (c : Compiled) (names : List Word) (b : ℕ) where
   abbrev pub stack_declared : Declared
