@@ -1,6 +1,6 @@
 -- The words of the printed objects: each has one, and no two have the same.
 -- Source: this project's.
-use Rattle.std.proofs.Common.{ℕ, ◌≡◌, ◌<◌, ◌≤◌, true, List, [], ◌∷◌, ◌++◌, map, length, slice_get, Some, ap, sym, subst, ◌∙◌, refl, arith}
+use Rattle.std.proofs.Common.{ℕ, ◌≡◌, ◌<◌, ◌≤◌, true, List, [], ◌∷◌, ◌++◌, map, length, slice_get, Some, ap, sym, subst, ◌∙◌, refl}
 use Rattle.htn_base.specs.Escapes.{slot_word}
 use Rattle.plan_model.specs.declared.options.Checks.{Checks}
 use Rattle.plan_model.specs.declared.types.Object.{Object}
@@ -24,7 +24,7 @@ use Rattle.plan_proof.proofs.machine.ObjectWords.{name_word, same_get}
 use Rattle.stack_encoding.specs.StackNames.{cell_object, stack_objects}
 use Rattle.stack_encoding.proofs.places.StackWorded.{IsStackWorded}
 use Rattle.stack_encoding.proofs.places.CellPlaces.{object_at, cell_at}
-use Rattle.stack_proof.proofs.words.Cells.{IsNumber}
+use Rattle.stack_proof.proofs.words.Cells.{IsCellNumber}
 
 module _ (h : Hddl) (mode : Checks) (c : Compiled) (b : ℕ) (p : Pddl) (is : IsStackWorded h mode c b p) where
   abbrev words : List Word
@@ -80,7 +80,7 @@ module _ (h : Hddl) (mode : Checks) (c : Compiled) (b : ℕ) (p : Pddl) (is : Is
   join_objects (o ∷ os) os' [] ws' i j = absurd i
   join_objects (o ∷ os) os' (w ∷ ws) ws' i j = (i.0, join_objects os os' ws ws' i.1 j)
 
-  cells_worded : (ks : List ℕ) → EachIs (IsNumber b) ks → AreObjects p (map (cell_object c) ks) (map slot_word ks)
+  cells_worded : (ks : List ℕ) → EachIs (IsCellNumber b) ks → AreObjects p (map (cell_object c) ks) (map slot_word ks)
   cells_worded [] e = tt
   cells_worded (k ∷ ks) e = (of_cell k e.0, cells_worded ks e.1)
 
@@ -91,5 +91,5 @@ module _ (h : Hddl) (mode : Checks) (c : Compiled) (b : ℕ) (p : Pddl) (is : Is
   source_worded (x ∷ params) (o ∷ os) t = (of_source o (get_within c.hddl.objects o t.0.0 t.0.1), source_worded params os t.1)
 
   -- the words of cells and objects
-  pub worded : (ks values : List ℕ) (params : List Param) → EachIs (IsNumber b) ks → AreTyped (Source.InTypeOf c) params values → AreObjects p (map (cell_object c) ks ++ values) (map slot_word ks ++ map (object_word c) values)
+  pub worded : (ks values : List ℕ) (params : List Param) → EachIs (IsCellNumber b) ks → AreTyped (Source.InTypeOf c) params values → AreObjects p (map (cell_object c) ks ++ values) (map slot_word ks ++ map (object_word c) values)
   worded ks values params e t = join_objects (map (cell_object c) ks) values (map slot_word ks) (map (object_word c) values) (cells_worded ks e) (source_worded params values t)

@@ -16,13 +16,11 @@ use Rattle.slot_encoding.proofs.places.SourceFormulas.{typed-source}
 use Rattle.stack_encoding.specs.StackNames.{cell_object}
 use Rattle.stack_encoding.proofs.places.StackWorded.{IsStackWorded}
 use Rattle.stack_encoding.proofs.places.StackTypes.{stack_types_agree}
+use Rattle.stack_proof.proofs.machine.CellAtoms.{one_cell}
 
--- the number of a cell of a stack of b, the one below all included
-abbrev pub IsNumber : ℕ → ℕ → Type 0
-IsNumber b k = k ≤ b
-
-pub one_cell : (c : Compiled) (j k : ℕ) → cell_object c j ≡ cell_object c k → j ≡ k
-one_cell c j k e = omega arith
+-- the number of a cell, the lowest included
+abbrev pub IsCellNumber : ℕ → ℕ → Type 0
+IsCellNumber b k = k ≤ b
 
 pub same_cells : (c : Compiled) (js ks : List ℕ) → map (cell_object c) js ≡ map (cell_object c) ks → js ≡ ks
 same_cells c [] [] e = refl
@@ -47,7 +45,7 @@ module _ (h : Hddl) (mode : Checks) (c : Compiled) (b : ℕ) (p : Pddl) (is : Is
   pub record Taken (front params : List Param) (os : List ℕ) : Type 0 where
     pub ks : List ℕ
     pub values : List ℕ
-    pub cells : EachIs (IsNumber b) ks
+    pub cells : EachIs (IsCellNumber b) ks
     pub long : length ks ≡ length front
     pub typed : AreTyped (Source.InTypeOf c) params values
     pub objects : os ≡ map (cell_object c) ks ++ values
@@ -61,7 +59,7 @@ module _ (h : Hddl) (mode : Checks) (c : Compiled) (b : ℕ) (p : Pddl) (is : Is
       let g = r.objects in
       record { ks = k ∷ r.ks; values = r.values; cells = (l, r.cells); long = ap suc r.long; typed = r.typed; objects = λ i. f i ∷ g i }
 
-  pub put_together : (front params : List Param) (ks values : List ℕ) → EachIs (λ (x : Param). x.ty ≡ slot_type) front → length ks ≡ length front → EachIs (IsNumber b) ks → AreTyped (Source.InTypeOf c) params values
+  pub put_together : (front params : List Param) (ks values : List ℕ) → EachIs (λ (x : Param). x.ty ≡ slot_type) front → length ks ≡ length front → EachIs (IsCellNumber b) ks → AreTyped (Source.InTypeOf c) params values
       → AreTyped (Printed.InTypeOf p) (front ++ map (source_param p.names c.hddl.names) params) (map (cell_object c) ks ++ values)
   put_together [] params [] values e l s v = (typed_source params values).1 v
   put_together [] params (k ∷ ks) values e l s v = absurd (omega arith)

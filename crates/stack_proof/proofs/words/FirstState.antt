@@ -1,6 +1,6 @@
 -- How the first state of the printed problem of a stack reads.
 -- Source: this project's.
-use Rattle.std.proofs.Common.{ℕ, suc, ◌≡◌, ◌≢◌, ◌↔◌, ◌⊎◌, ◌+◌, ◌<◌, ◌≤◌, ◌==◌, ◌&&◌, inl, inr, true, false, cond, List, [], ◌∷◌, ◌++◌, map, length, refl, ap, sym, subst, ◌∙◌, Contains, arith, eq-eqb, Bool}
+use Rattle.std.proofs.Common.{ℕ, suc, ◌≡◌, ◌≢◌, ◌⊎◌, ◌+◌, ◌<◌, ◌≤◌, ◌==◌, ◌&&◌, inl, inr, true, false, cond, List, [], ◌∷◌, ◌++◌, map, length, refl, ap, sym, subst, ◌∙◌, Contains, arith, eq-eqb, Bool}
 use Rattle.std.specs.Str.{bytes_eq}
 use Rattle.std.proofs.lemmas.Bool.Decides.{eqb_tells}
 use Rattle.std.proofs.lemmas.List.Elements.{Contains-append_left, Contains-append_right, Contains-append_cases}
@@ -10,7 +10,7 @@ use Rattle.plan_model.specs.declared.values.Compiled.{Compiled}
 use Rattle.plan_model.specs.declared.values.Pddl.{Pddl}
 use Rattle.plan_model.specs.task_networks.Spelling.{numbers}
 use Rattle.plan_model.proofs.task_networks.Lists.{Contains-here, Contains-later, head_or_tail, not-in_empty}
-use Rattle.plan_model.proofs.task_networks.Numbers.{numbers_to, to_numbers}
+use Rattle.plan_model.proofs.task_networks.Numbers.{to_numbers}
 use Rattle.plan_texts.proofs.Basics.{bytes_eq-true}
 use Rattle.plan_model.specs.plan_meaning.Network.{Work, network, top_task}
 use Rattle.plan_model.specs.plan_meaning.Solution.{top_work, initial}
@@ -23,7 +23,7 @@ use Rattle.plan_proof.proofs.machine.Reading.{IsKnown}
 use Rattle.plan_proof.proofs.machine.Atoms.{known_numbered}
 use Rattle.plan_proof.proofs.machine.Starts.{Contains-mapped}
 use Rattle.stack_machine.specs.StackMachine.{first_stack}
-use Rattle.stack_encoding.specs.StackNames.{tip_predicate, up_predicate, cell_object}
+use Rattle.stack_encoding.specs.StackNames.{cell_object}
 use Rattle.stack_encoding.specs.StackValue.{up_fact, first_atoms, IsInitial}
 use Rattle.stack_proof.proofs.machine.StackReading.{IsCell, held, tip_atom, up_atom, Reads}
 use Rattle.stack_proof.proofs.machine.StackFacts.{StackPieces}

@@ -1,9 +1,8 @@
 -- What the condition of a printed action says of its cells: they lie one above the other, and the one that it takes is the tip.
 -- Source: this project's.
-use Rattle.std.proofs.Common.{ℕ, zero, suc, ◌≡◌, ◌+◌, ◌-◌, ◌<◌, ◌≤◌, List, [], ◌∷◌, ◌++◌, map, length, slice_index, refl, ap, sym, subst, ◌∙◌, arith}
+use Rattle.std.proofs.Common.{ℕ, zero, suc, ◌≡◌, ◌+◌, ◌-◌, ◌<◌, ◌≤◌, List, [], ◌∷◌, ◌++◌, map, length, slice_index, refl, ap, subst, ◌∙◌, arith}
 use Rattle.std.proofs.Math.Decide.{ℕ_discrete}
 use Rattle.plan_model.specs.declared.terms.Atom.{Atom}
-use Rattle.plan_model.specs.declared.terms.GroundAtom.{GroundAtom}
 use Rattle.plan_model.specs.declared.formulas.Formula.{Formula}
 use Rattle.plan_model.specs.declared.formulas.Formula.TheVariants.{Holds, And}
 use Rattle.plan_model.specs.declared.schemas.MethodPlan.{MethodPlan}
@@ -22,10 +21,10 @@ use Rattle.slot_encoding.proofs.places.Sums.{each-append}
 use Rattle.plan_proof.proofs.machine.Reading.{IsKnown}
 use Rattle.stack_machine.specs.StackMachine.{StackState}
 use Rattle.stack_encoding.specs.StackNames.{cell_object}
-use Rattle.stack_encoding.specs.StackActions.{is_tip, is_up, at_tip, rising, asked, method_pre}
+use Rattle.stack_encoding.specs.StackActions.{is_up, at_tip, rising, asked, method_pre}
 use Rattle.stack_encoding.specs.StackSpelling.{cells_of}
-use Rattle.stack_proof.proofs.machine.StackReading.{IsCell, held, tip_atom, up_atom, Reads}
-use Rattle.stack_proof.proofs.words.Cells.{IsNumber}
+use Rattle.stack_proof.proofs.machine.StackReading.{IsCell, held, up_atom, Reads}
+use Rattle.stack_proof.proofs.words.Cells.{IsCellNumber}
 
 -- what is one more each time is a row of numbers
 pub row_from : (k : ℕ) (ks : List ℕ) → ((i : ℕ) → i < length ks → slice_index (k ∷ ks) (suc i) ≡ suc (slice_index (k ∷ ks) i)) → k ∷ ks ≡ numbers k (suc (length ks))
@@ -41,12 +40,12 @@ index_left c [] values i l = absurd (omega arith)
 index_left c (k ∷ ks) values zero l = refl
 index_left c (k ∷ ks) values (suc i) l = index_left c ks values i (omega arith)
 
-index_within : (b : ℕ) (ks : List ℕ) (i : ℕ) → EachIs (IsNumber b) ks → i < length ks → slice_index ks i ≤ b
+index_within : (b : ℕ) (ks : List ℕ) (i : ℕ) → EachIs (IsCellNumber b) ks → i < length ks → slice_index ks i ≤ b
 index_within b [] i e l = absurd (omega arith)
 index_within b (k ∷ ks) zero e l = e.0
 index_within b (k ∷ ks) (suc i) e l = index_within b ks i e.1 (omega arith)
 
-numbers_within : (b h n : ℕ) → EachIs (IsNumber b) (numbers h (suc n)) → h + n ≤ b
+numbers_within : (b h n : ℕ) → EachIs (IsCellNumber b) (numbers h (suc n)) → h + n ≤ b
 numbers_within b h zero e = let l = e.0 in omega arith
 numbers_within b h (suc n) e = let l = numbers_within b (suc h) n e.1 in omega arith
 
@@ -59,7 +58,7 @@ module _ (c : Compiled) (b : ℕ) (p : Pddl) where
     held_true a os k = subst (λ z. z os) (truth-Holds (Printed.InTypeOf p) S a) k
 
     -- one cell above the other, where a condition says so
-    up_is : (u v : ℕ) (ks values : List ℕ) → EachIs (IsNumber b) ks → u < length ks → v < length ks → True (Holds (is_up c p.names b u v)) (map (cell_object c) ks ++ values) → slice_index ks v ≡ suc (slice_index ks u)
+    up_is : (u v : ℕ) (ks values : List ℕ) → EachIs (IsCellNumber b) ks → u < length ks → v < length ks → True (Holds (is_up c p.names b u v)) (map (cell_object c) ks ++ values) → slice_index ks v ≡ suc (slice_index ks u)
     up_is u v ks values e l m k =
         let os = map (cell_object c) ks ++ values in
         let s = held_true (is_up c p.names b u v) os k in
@@ -69,7 +68,7 @@ module _ (c : Compiled) (b : ℕ) (p : Pddl) where
         (reads.ups (slice_index ks u) (slice_index ks v) (index_within b ks u e l) (index_within b ks v e m)).0 (subst S here s)
 
     -- where nothing comes in its place
-    pub fallen : (held_atom : Atom) (rest : List Formula) (ks values : List ℕ) → length ks ≡ 2 → EachIs (IsNumber b) ks → True (And (at_tip c p.names b held_atom ++ rest)) (map (cell_object c) ks ++ values)
+    pub fallen : (held_atom : Atom) (rest : List Formula) (ks values : List ℕ) → length ks ≡ 2 → EachIs (IsCellNumber b) ks → True (And (at_tip c p.names b held_atom ++ rest)) (map (cell_object c) ks ++ values)
         → (h : ℕ) × IsCell c b p h × (ks ≡ cells_of h 0)
     fallen held_atom rest [] values l e k = absurd (omega arith)
     fallen held_atom rest (d ∷ []) values l e k = absurd (omega arith)
@@ -89,7 +88,7 @@ module _ (c : Compiled) (b : ℕ) (p : Pddl) where
       | no f ↦ each_up (suc i) n k os e.1 (omega arith) (omega arith)
     ]
 
-    risen : (n k : ℕ) (ks values : List ℕ) → length ks ≡ n → EachIs (IsNumber b) (k ∷ ks) → EachTrue True (rising c p.names b (suc n)) (map (cell_object c) (k ∷ ks) ++ values) → k ∷ ks ≡ numbers k (suc n)
+    risen : (n k : ℕ) (ks values : List ℕ) → length ks ≡ n → EachIs (IsCellNumber b) (k ∷ ks) → EachTrue True (rising c p.names b (suc n)) (map (cell_object c) (k ∷ ks) ++ values) → k ∷ ks ≡ numbers k (suc n)
     risen n k ks values l e r =
         row_from k ks (λ i m. up_is i (suc i) (k ∷ ks) values e (omega arith) (omega arith) (each_up 0 n i (map (cell_object c) (k ∷ ks) ++ values) r (omega arith) (omega arith)))
         ∙ ap (λ z. numbers k (suc z)) l
@@ -99,7 +98,7 @@ module _ (c : Compiled) (b : ℕ) (p : Pddl) where
       abbrev pub HasCells : ℕ → List ℕ → Type 0
       HasCells n ks = (h : ℕ) × IsCell c b p h × (h + n ≤ suc b) × (ks ≡ cells_of h n)
 
-      pub method_cells : (n : ℕ) (ks values : List ℕ) → length ks ≡ length (cells_of 0 n) → EachIs (IsNumber b) ks → True (And (method_pre c p.names b m plan n)) (map (cell_object c) ks ++ values) → HasCells n ks
+      pub method_cells : (n : ℕ) (ks values : List ℕ) → length ks ≡ length (cells_of 0 n) → EachIs (IsCellNumber b) ks → True (And (method_pre c p.names b m plan n)) (map (cell_object c) ks ++ values) → HasCells n ks
       method_cells zero ks values l e k = let (h, cell, f) = fallen (task_in c p.names 2 1 plan) (asked c p.names b 2 plan) ks values l e k in let r = cell.1 in (h, cell, omega arith, f)
       method_cells (suc n) [] values l e k = absurd (omega arith)
       method_cells (suc n) (h ∷ ks) values l e k = (h, (positive, e.0), within, row)
@@ -123,4 +122,4 @@ module _ (c : Compiled) (b : ℕ) (p : Pddl) where
           row = risen n h ks values (let f = length-numbers 1 n in omega arith) e ((each-append True (rising c p.names b (suc n)) (asked c p.names b (suc n) plan) os).0 all.1.1).0
 
           within : h + suc n ≤ suc b
-          within = let f = numbers_within b h n (subst (EachIs (IsNumber b)) row e) in omega arith
+          within = let f = numbers_within b h n (subst (EachIs (IsCellNumber b)) row e) in omega arith

@@ -1,8 +1,7 @@
 -- What the printed problem of a stack takes spells executable fronts with their cells, and its plans spell solutions.
 -- Source: this project's.
-use Rattle.std.proofs.Common.{ℕ, suc, ◌≡◌, ◌↔◌, ◌+◌, ◌≤◌, List, [], ◌∷◌, map, length, refl, ap, sym, subst, ◌∙◌, Contains, arith}
+use Rattle.std.proofs.Common.{ℕ, ◌≡◌, ◌≤◌, List, [], ◌∷◌, map, length, refl, ap, sym, subst, Contains, arith}
 use Rattle.std.proofs.lemmas.List.{length-map}
-use Rattle.plan_model.specs.declared.options.Style.TheVariants.{Adl}
 use Rattle.plan_model.specs.declared.options.Checks.{Checks}
 use Rattle.plan_model.specs.declared.types.Object.{Object}
 use Rattle.plan_model.specs.declared.terms.GroundAtom.{GroundAtom}

@@ -1,6 +1,6 @@
 -- The step of an act has its action's word and its objects, and equal steps are those of one act.
 -- Source: this project's.
-use Rattle.std.proofs.Common.{ℕ, zero, suc, ◌≡◌, ◌+◌, ◌-◌, ◌<◌, ◌≤◌, List, [], ◌∷◌, ◌++◌, map, length, slice_get, Some, refl, ap, sym, subst, ◌∙◌, arith}
+use Rattle.std.proofs.Common.{ℕ, zero, suc, ◌≡◌, List, [], ◌∷◌, ◌++◌, map, length, slice_get, refl, ap, sym, subst, ◌∙◌, arith}
 use Rattle.std.proofs.lemmas.List.{length-map}
 use Rattle.htn_base.specs.Escapes.{slot_word}
 use Rattle.plan_model.specs.declared.options.Style.TheVariants.{Adl}
@@ -16,7 +16,7 @@ use Rattle.plan_model.proofs.task_networks.Numbers.{length-numbers}
 use Rattle.text_forms.specs.Words.{Word}
 use Rattle.plan_texts.specs.Types.{EachIs}
 use Rattle.plan_model.specs.plan_meaning.Truth.{State, AreTyped, IsTrueIn}
-use Rattle.plan_model.specs.plan_meaning.Network.{GroundMethod, action, check, task, network}
+use Rattle.plan_model.specs.plan_meaning.Network.{action, check, task, network}
 use Rattle.plan_model.specs.plan_meaning.ClassicalPlan as Printed
 use Rattle.plan_model.specs.plan_meaning.ClassicalPlan.{AreObjects, IsApplicable}
 use Rattle.plan_model.specs.plan_meaning.SpelledPlan.{object_word, work_name, method_name}
@@ -30,7 +30,7 @@ use Rattle.stack_encoding.specs.StackActions.{stack_method, stack_check, stack_a
 use Rattle.stack_encoding.specs.StackSpelling.{cells_of, stack_step}
 use Rattle.stack_encoding.proofs.places.StackWorded.{IsStackWorded}
 use Rattle.stack_proof.proofs.machine.StackReading.{IsCell, IsActBy}
-use Rattle.stack_proof.proofs.words.Cells.{IsNumber, same_cells, put_together}
+use Rattle.stack_proof.proofs.words.Cells.{IsCellNumber, same_cells, put_together}
 use Rattle.stack_proof.proofs.words.CellWords.{same_objects, worded}
 use Rattle.stack_encoding.proofs.places.StackPlaces.{method_at, check_at, action_at}
 use Rattle.stack_proof.proofs.words.ActionNames.{IsNamed, same_action, method_named, check_named, action_named, cell_params, method_params_are, length-cells, are_cells}
@@ -91,7 +91,7 @@ module _ (h : Hddl) (mode : Checks) (c : Compiled) (b : ℕ) (p : Pddl) (is : Is
     pub objects : AreObjects p os (stack_step c act).args
     pub typed : AreTyped (Printed.InTypeOf p) a.params os
 
-  row : (k : ℕ) → IsCell c b p k → EachIs (IsNumber b) (cells_of k 0)
+  row : (k : ℕ) → IsCell c b p k → EachIs (IsCellNumber b) (cells_of k 0)
   row k cell = cells_within b k 0 cell.0 cell.1 (let l = cell.1 in omega arith)
 
   shown : (act : Act (network c)) (a : ActionSchema) (os : List ℕ) → IsBy act a os → Shows act a os

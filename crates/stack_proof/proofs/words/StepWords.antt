@@ -1,8 +1,6 @@
 -- A step that is applicable is the step of one act, and each act's step names its action and its objects.
 -- Source: this project's.
-use Rattle.std.proofs.Common.{ℕ, zero, suc, ◌≡◌, ◌+◌, ◌-◌, ◌<◌, ◌≤◌, inl, inr, true, List, [], ◌∷◌, ◌++◌, map, length, slice_get, Some, refl, ap, sym, subst, ◌∙◌, arith}
-use Rattle.std.specs.Prelude.{codes}
-use Rattle.std.proofs.lemmas.List.{length-map}
+use Rattle.std.proofs.Common.{ℕ, zero, suc, ◌≡◌, ◌+◌, ◌≤◌, inl, inr, true, List, ◌++◌, map, length, slice_get, Some, refl, ap, sym, subst, ◌∙◌, arith}
 use Rattle.htn_base.specs.Escapes.{slot_word}
 use Rattle.plan_model.specs.Pairs.{Pairs}
 use Rattle.plan_model.specs.declared.options.Checks.{Checks}
@@ -15,40 +13,39 @@ use Rattle.plan_model.specs.declared.values.Hddl.{Hddl}
 use Rattle.plan_model.specs.declared.values.Compiled.{Compiled}
 use Rattle.plan_model.specs.declared.values.Pddl.{Pddl}
 use Rattle.plan_model.specs.task_networks.Order.{IsLine}
-use Rattle.plan_model.specs.task_networks.Net.{count}
 use Rattle.plan_model.specs.task_networks.Spelling.{Act, run, apply, numbers}
 use Rattle.text_forms.specs.Words.{Word}
 use Rattle.plan_texts.specs.Types.{EachIs}
 use Rattle.plan_model.specs.plan_meaning.Truth.{State, AreTyped, IsTrueIn}
-use Rattle.plan_model.specs.plan_meaning.Network.{GroundMethod, action, check, task, network, InTypeOf}
+use Rattle.plan_model.specs.plan_meaning.Network.{GroundMethod, action, check, network, InTypeOf}
 use Rattle.plan_model.specs.plan_meaning.ClassicalPlan as Printed
 use Rattle.plan_model.specs.plan_meaning.ClassicalPlan.{AreObjects, IsApplicable}
 use Rattle.plan_model.specs.plan_meaning.SpelledPlan.{object_word, work_name, method_name}
 use Rattle.slot_encoding.specs.SourceParts.{source_param}
 use Rattle.slot_encoding.specs.EncodedNames.{slot_type}
-use Rattle.slot_encoding.proofs.places.ListPlaces.{get_contains, contains_get}
+use Rattle.slot_encoding.proofs.places.ListPlaces.{contains_get}
 use Rattle.plan_proof.proofs.machine.Fits.{fits}
 use Rattle.plan_proof.proofs.machine.MethodChildren.{count_is}
 use Rattle.stack_machine.specs.StackMachine.{StackState}
 use Rattle.stack_encoding.specs.StackNames.{cell_object}
-use Rattle.stack_encoding.specs.StackActions.{stack_method, stack_check, stack_action, method_params, method_pre}
+use Rattle.stack_encoding.specs.StackActions.{stack_method, stack_check, stack_action}
 use Rattle.stack_encoding.specs.StackValue.{stack_actions}
 use Rattle.stack_encoding.specs.StackSpelling.{cells_of, stack_step}
 use Rattle.stack_encoding.proofs.places.StackWorded.{IsStackWorded}
 use Rattle.stack_proof.proofs.machine.StackReading.{IsCell, Reads, IsActBy}
-use Rattle.stack_proof.proofs.words.Cells.{IsNumber, Taken, take_apart, put_together}
+use Rattle.stack_proof.proofs.words.Cells.{IsCellNumber, Taken, take_apart}
 use Rattle.stack_proof.proofs.words.CellWords.{same_words, worded}
-use Rattle.stack_encoding.proofs.places.StackPlaces.{method_at, check_at, action_at, IsOfMethod, IsOfCheck, IsOfAction, action_cases}
+use Rattle.stack_encoding.proofs.places.StackPlaces.{IsOfMethod, IsOfCheck, IsOfAction, action_cases}
 use Rattle.stack_proof.proofs.words.ActionNames.{IsNamed, method_named, check_named, action_named, cell_params, method_params_are, length-cells, are_cells}
-use Rattle.stack_proof.proofs.words.Rows.{fallen, HasCells, method_cells}
+use Rattle.stack_proof.proofs.words.Rows.{fallen, method_cells}
 use Rattle.stack_proof.proofs.words.Lines.{line_of, line_cells, are_line_cells}
 
 -- the cells that a step names are numbers of cells
-pub cells_within : (b h n : ℕ) → 1 ≤ h → h ≤ b → h + n ≤ suc b → EachIs (IsNumber b) (cells_of h n)
+pub cells_within : (b h n : ℕ) → 1 ≤ h → h ≤ b → h + n ≤ suc b → EachIs (IsCellNumber b) (cells_of h n)
 cells_within b h zero l m r = (omega arith, (m, tt))
 cells_within b h (suc n) l m r = (m, rest (suc h) n (omega arith))
   where
-    rest : (h n : ℕ) → h + n ≤ suc b → EachIs (IsNumber b) (numbers h n)
+    rest : (h n : ℕ) → h + n ≤ suc b → EachIs (IsCellNumber b) (numbers h n)
     rest h zero r = tt
     rest h (suc n) r = (omega arith, rest (suc h) n (omega arith))
 
