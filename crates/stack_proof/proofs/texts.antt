@@ -1,3 +1,4 @@
+pub mod Stub
 pub mod SameNames
 pub mod SameActions
 pub mod SameStack

@@ -14,7 +14,9 @@ mod value_laws;
 
 pub use order_laws::{ordered_or_one_first, values_are_ordered_alike};
 pub use plan_laws::{each_tree_has_one_spelling, stack_value_is_faithful};
-pub use print_laws::{printed_stack_texts_are_the_pair, some_pair_of_stack_texts};
+pub use print_laws::{
+    one_pair_of_stack_texts, printed_stack_texts_are_the_pair, some_pair_of_stack_texts,
+};
 pub use value_laws::{
     each_tree_has_one_plan, printed_stack_for_each, stack_headline, stack_headline_at_bound,
 };

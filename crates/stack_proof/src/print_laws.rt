@@ -10,11 +10,17 @@ ghost use Rattle.plan_model.specs.plan_meaning.Laws.{AreOrdered};
 ghost use Rattle.stack_encoding.specs.StackPrinted.{IsPrintedStack};
 ghost use Rattle.stack_encoding.specs.StackWords.{HasStackWords};
 ghost use Rattle.stack_encoding.specs.TotalOrder.{IsTotallyOrdered};
-ghost use Rattle.stack_proof.specs.StackTexts.{HaveStackTexts, PrintedAreStackTexts};
+ghost use Rattle.stack_proof.specs.StackTexts.{HaveStackTexts, HaveOnePairOfStackTexts, PrintedAreStackTexts};
 
 use plan_model::{Checks, Compiled, Hddl, Pddl};
 
-/// The two texts of a printed value, over a table that has all its words, are a pair of them.
+/// Two source texts have one pair of printed texts at most, in each mode of checks and at each number of cells, whichever values
+/// they are read as, and whichever tables the printed values have.
+pub fn one_pair_of_stack_texts(domain: &[u8], problem: &[u8], checks: &Checks, cells: u32)
+    ensures { HaveOnePairOfStackTexts domain.now problem.now checks.now cells }
+{}
+
+/// The two texts of a printed value, over a table that has all its words, are such a pair.
 pub fn printed_stack_texts_are_the_pair(
     domain: &[u8],
     problem: &[u8],
