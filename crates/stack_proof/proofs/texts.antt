@@ -1,4 +1,3 @@
-pub mod Stub
 pub mod SameNames
 pub mod SameActions
 pub mod SameStack

@@ -10,8 +10,7 @@ use Rattle.plan_texts.specs.FirstSeen.{IsHddlOf}
 use Rattle.plan_texts.specs.SoundValue.{IsSoundHddl}
 use Rattle.plan_texts.specs.PrintedTexts.{domain_text, problem_text}
 use Rattle.stack_encoding.specs.TotalOrder.{IsTotallyOrdered}
-use Rattle.stack_encoding.specs.StackValue.{IsStackEncoded}
-use Rattle.stack_encoding.specs.StackWords.{HasStackWords}
+use Rattle.stack_encoding.specs.StackPrinted.{IsFullyStackEncoded}
 
 -- The two printed texts of two source texts: of some sound value that they spell, whose methods are totally ordered, with preconditions
 -- checked in this mode and cells 0 to b, over a name table that lacks no word.
@@ -23,8 +22,7 @@ pub record AreStackTexts (domain problem : List ℕ) (mode : Checks) (b : ℕ) (
   pub is_compiled : IsCompiled read mode compiled
   pub ordered : IsTotallyOrdered compiled
   pub value : Pddl
-  pub is_encoded : IsStackEncoded compiled b value
-  pub words : HasStackWords compiled b value.names
+  pub is_encoded : IsFullyStackEncoded compiled b value
   pub domain_is : printed_domain ≡ domain_text value
   pub problem_is : printed_problem ≡ problem_text value
 
