@@ -1,47 +1,37 @@
 -- The printed problem of the smallest one, m: t -> a with t on top, as a stack of one cell, written out by hand; and its two texts.
-use Rattle.std.proofs.Common.{ℕ, ◌≡◌, true, cond, List, [], ◌∷◌, ◌++◌, codes, refl, ap, sym, subst, ◌∙◌, lit<, Contains}
-use Rattle.std.specs.Fmt.{digits}
-use Rattle.htn_base.specs.Escapes.{slot_word}
+use Rattle.std.proofs.Common.{◌≡◌, true, List, [], ◌∷◌, ◌++◌, codes, refl, sym, subst, Contains}
 use Rattle.text_forms.specs.Words.{Word}
 use Rattle.text_forms.specs.Printing.{bytes}
-use Rattle.plan_model.specs.declared.terms.Term.TheVariants.{Var, Obj}
-use Rattle.plan_model.specs.declared.terms.Atom.{Atom}
+use Rattle.plan_model.specs.declared.terms.Term.TheVariants.{Obj}
 use Rattle.plan_model.specs.declared.terms.Param.{Param}
-use Rattle.plan_model.specs.declared.types.Object.{Object}
 use Rattle.plan_model.specs.declared.formulas.Formula.{Formula}
 use Rattle.plan_model.specs.declared.formulas.Formula.TheVariants.{Holds, And}
 use Rattle.plan_model.specs.declared.effects.Effect.{Effect}
 use Rattle.plan_model.specs.declared.effects.Effect.TheVariants as E
-use Rattle.plan_model.specs.declared.schemas.Predicate.{Predicate}
 use Rattle.plan_model.specs.declared.schemas.ActionSchema.{ActionSchema}
 use Rattle.plan_model.specs.declared.values.Pddl.{Pddl}
-use Rattle.plan_model.proofs.plan_meaning.examples.RowValues.{always, nothing}
+use Rattle.plan_model.proofs.plan_meaning.examples.RowValues.{always}
 use Rattle.plan_model.proofs.plan_meaning.examples.RowWords.{slot_1}
 use Rattle.plan_model.proofs.plan_meaning.examples.SmallestRow.{smallest, smallest_names}
 use Rattle.plan_texts.specs.Declared.{Declared}
 use Rattle.plan_texts.specs.SpellsPddl.{pddl_words}
 use Rattle.plan_texts.specs.Printed.{formula_part, effect_part}
 use Rattle.plan_texts.specs.PrintedTexts.{domain_text, problem_text}
-use Rattle.slot_encoding.specs.SourceParts.{name, source_formula, source_effect}
-use Rattle.slot_encoding.specs.MethodParts.{condition_part, change_part}
-use Rattle.slot_encoding.proofs.examples.RowTexts.{empty_condition, empty_effect, printing}
+use Rattle.slot_encoding.specs.SourceParts.{name}
+use Rattle.slot_encoding.specs.MethodParts.{condition_part}
+use Rattle.slot_encoding.proofs.examples.RowTexts.{printing}
 use Rattle.stack_encoding.specs.StackNames.{stack_objects}
 use Rattle.stack_encoding.specs.StackValue.{stack_actions, IsStackEncoded}
 use Rattle.stack_encoding.specs.StackWords.{stack_words}
 use Rattle.stack_encoding.specs.StackPrinted.{IsFullyStackEncoded}
 use Rattle.stack_encoding.proofs.StackOver.{nothing_left}
-
-pub slot_0 : slot_word 0 ≡ codes "htn_s0"
-unfolding digits
-slot_0 = refl
+use Rattle.stack_encoding.proofs.said.StackSame.{stack_texts-same}
+use Rattle.stack_encoding.proofs.examples.StackParts.{slot_0, variable, cell, predicate, types, of, action, falls, no_condition, no_change, no_words, no_effect_words}
 
 abbrev pub words : List Word
 words =
     codes "d" ∷ codes "p" ∷ codes "object" ∷ codes "htn_slot" ∷ codes "htn_object" ∷ codes "htn_s0" ∷ codes "htn_s1" ∷ codes "htn_h" ∷ codes "htn_d" ∷ codes "htn_x" ∷ codes "htn_a1"
     ∷ codes "htn_top" ∷ codes "htn_tip" ∷ codes "htn_up" ∷ codes "htn_t_t" ∷ codes "htn_a_a" ∷ codes "htn_start" ∷ codes "htn_m_m" ∷ codes "a" ∷ []
-
-abbrev variable : ℕ → Param
-variable word = record { name = record { number = word }; ty = 1 }
 
 -- ?htn_h, ?htn_d and ?htn_x, each - htn_slot
 abbrev h : Param
@@ -53,22 +43,6 @@ d = variable 8
 abbrev x : Param
 x = variable 9
 
-abbrev cell : ℕ → Object
-cell word = record { name = record { number = word }; ty = 1; constant = true }
-
-abbrev predicate : ℕ → List Param → Predicate
-predicate word params = record { name = record { number = word }; params = params }
-
--- a predicate of one variable, and htn_up of two
-abbrev pub of : (number v : ℕ) → Atom
-of number v = record { predicate = number; args = Var v ∷ [] }
-
-abbrev pub up : Atom
-up = record { predicate = 2; args = Var 0 ∷ Var 1 ∷ [] }
-
-abbrev action : ℕ → List Param → List Formula → List Effect → ActionSchema
-action word params pre eff = record { name = record { number = word }; params = params; pre = And pre; eff = E.And eff }
-
 -- htn_start, htn_m_m and a; what a asks and does itself comes last, and is nothing
 abbrev start : ActionSchema
 start = action 16 (h ∷ []) (Holds (of 0 0) ∷ Holds (of 1 0) ∷ []) (E.Delete (of 0 0) ∷ E.Add (of 3 0) ∷ [])
@@ -77,7 +51,7 @@ abbrev of_t : ActionSchema
 of_t = action 17 (h ∷ []) (Holds (of 3 0) ∷ Holds (of 1 0) ∷ []) (E.Delete (of 3 0) ∷ E.Add (of 4 0) ∷ [])
 
 abbrev a : List Formula → List Effect → ActionSchema
-a pre eff = action 18 (d ∷ h ∷ []) (Holds (of 4 1) ∷ Holds (of 1 1) ∷ Holds up ∷ pre) (E.Delete (of 4 1) ∷ E.Delete (of 1 1) ∷ E.Add (of 1 0) ∷ eff)
+a pre eff = falls 18 (d ∷ h ∷ []) 4 pre eff
 
 -- the cells are objects 0 and 1
 abbrev pub printed : Pddl
@@ -85,11 +59,7 @@ printed = record {
   names = words;
   domain = record { number = 0 };
   problem = record { number = 1 };
-  types = record {
-    names = record { number = 2 } ∷ record { number = 3 } ∷ record { number = 4 } ∷ [];
-    parents = record { child = 1; parent = 0 } ∷ record { child = 2; parent = 0 } ∷ [];
-    unions = [];
-  };
+  types = types 2 3 4;
   objects = cell 5 ∷ cell 6 ∷ [];
   predicates = predicate 11 (h ∷ []) ∷ predicate 12 (h ∷ []) ∷ predicate 13 (x ∷ h ∷ []) ∷ predicate 14 (h ∷ []) ∷ predicate 15 (h ∷ []) ∷ [];
   actions = start ∷ of_t ∷ a [] [] ∷ [];
@@ -97,24 +67,25 @@ printed = record {
   goal = And (Holds (record { predicate = 1; args = Obj 0 ∷ [] }) ∷ []);
 }
 
--- an empty conjunction is no part of a condition, nor of an effect
-no_condition : (front : ℕ) → condition_part smallest words front always ≡ []
-no_condition front = ap (λ b. cond b [] (source_formula words smallest_names front always ∷ [])) empty_condition
-
-no_change : change_part smallest words 2 nothing ≡ []
-no_change = ap (λ b. cond b [] (source_effect words smallest_names 2 nothing ∷ [])) empty_effect
-
 objects_are : cell 5 ∷ cell 6 ∷ [] ≡ stack_objects smallest words 1
 objects_are = λ i. record { name = name words (sym slot_0 i); ty = 1; constant = true } ∷ record { name = name words (sym slot_1 i); ty = 1; constant = true } ∷ []
 
 actions_are : printed.actions ≡ stack_actions smallest words 1
-actions_are = λ i. start ∷ of_t ∷ a (sym (no_condition 2) i) (sym no_change i) ∷ []
+actions_are = λ i. start ∷ of_t ∷ a (sym (no_condition smallest words 2) i) (sym (no_change smallest words 2) i) ∷ []
 
 goal_is : printed.goal ≡ And (condition_part smallest words 0 always ++ nothing_left smallest 1 ∷ [])
-goal_is = λ i. And (sym (no_condition 0) i ++ nothing_left smallest 1 ∷ [])
+goal_is = λ i. And (sym (no_condition smallest words 0) i ++ nothing_left smallest 1 ∷ [])
 
 pub encoded : IsStackEncoded smallest 1 printed
 encoded = record { domain = refl; problem = refl; types = refl; objects = objects_are; predicates = refl; actions = actions_are; init = ([], refl, refl); goal = goal_is }
+
+-- the table lacks no word
+words_are : stack_words smallest 1 ≡ words
+words_are = λ i. codes "d" ∷ codes "p" ∷ codes "object" ∷ codes "htn_slot" ∷ codes "htn_object" ∷ slot_0 i ∷ slot_1 i ∷ codes "htn_h" ∷ codes "htn_d" ∷ codes "htn_x" ∷ codes "htn_a1" ∷ codes "htn_top" ∷ codes "htn_tip" ∷ codes "htn_up"
+    ∷ codes "htn_t_t" ∷ codes "htn_a_a" ∷ (((codes "htn_start" ∷ (no_words smallest_names i ++ (codes "htn_m_m" ∷ (no_words smallest_names i ++ [])))) ++ []) ++ ((codes "a" ∷ (no_words smallest_names i ++ no_effect_words smallest_names i)) ++ []) ++ no_words smallest_names i)
+
+pub fully : IsFullyStackEncoded smallest 1 printed
+fully = record { encoded = encoded; words = λ w m. subst (λ ws. Contains ws w) words_are m }
 
 abbrev v : Declared
 v = pddl_words printed
@@ -151,3 +122,7 @@ problem_row = simp goal-bytes
 
 pub domain_row : domain_text printed ≡ codes "(define (domain d)\n (:requirements :adl)\n (:types htn_slot - object htn_object - object)\n (:constants htn_s0 - htn_slot htn_s1 - htn_slot)\n (:predicates (htn_top ?htn_h - htn_slot) (htn_tip ?htn_h - htn_slot) (htn_up ?htn_x - htn_slot ?htn_h - htn_slot) (htn_t_t ?htn_h - htn_slot) (htn_a_a ?htn_h - htn_slot))\n (:action htn_start :parameters (?htn_h - htn_slot) :precondition (and (htn_top ?htn_h) (htn_tip ?htn_h)) :effect (and (not (htn_top ?htn_h)) (htn_t_t ?htn_h)))\n (:action htn_m_m :parameters (?htn_h - htn_slot) :precondition (and (htn_t_t ?htn_h) (htn_tip ?htn_h)) :effect (and (not (htn_t_t ?htn_h)) (htn_a_a ?htn_h)))\n (:action a :parameters (?htn_d - htn_slot ?htn_h - htn_slot) :precondition (and (htn_a_a ?htn_h) (htn_tip ?htn_h) (htn_up ?htn_d ?htn_h)) :effect (and (not (htn_a_a ?htn_h)) (not (htn_tip ?htn_h)) (htn_tip ?htn_d)))\n)\n"
 domain_row = simp (start-asks, start-does, method-asks, method-does, action-asks, action-does)
+
+-- whatever the table
+pub every_row : (p : Pddl) → IsFullyStackEncoded smallest 1 p → (domain_text p ≡ domain_text printed) × (problem_text p ≡ problem_text printed)
+every_row p e = stack_texts-same smallest 1 p printed e fully
