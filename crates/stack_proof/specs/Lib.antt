@@ -1,0 +1,3 @@
+pub mod OneTree
+pub mod StackTexts
+pub mod OrderedAlike

@@ -1,6 +1,6 @@
 -- How a state of the printed problem of a stack reads: as a state of the stack, and as a state of the source.
 -- Source: this project's encoding.
-use Rattle.std.specs.Prelude.{ℕ, zero, suc, ◌≡◌, ◌-◌, ◌+◌, ◌<◌, ◌≤◌, ◌↔◌, IsTrue, List, [], ◌∷◌, ◌++◌, map, length, slice_get, Some, Contains}
+use Rattle.std.specs.Prelude.{ℕ, suc, ◌≡◌, ◌+◌, ◌≤◌, ◌↔◌, IsTrue, List, [], ◌∷◌, ◌++◌, map, length, slice_get, Some, Contains}
 use Rattle.plan_model.specs.declared.terms.GroundAtom.{GroundAtom}
 use Rattle.plan_model.specs.declared.schemas.ActionSchema.{ActionSchema}
 use Rattle.plan_model.specs.declared.schemas.MethodPlan.{MethodPlan}
@@ -34,9 +34,10 @@ module _ (c : Compiled) (b : ℕ) (p : Pddl) where
   abbrev pub up_atom : ℕ → ℕ → GroundAtom
   up_atom x y = record { predicate = up_predicate c; args = cell_object c x ∷ cell_object c y ∷ [] }
 
-  -- the atoms of S say what t says of the cells, what T says of the source, which objects are in the types of guards, and which cell is above which
+  -- the atoms of S say what t says of the cells, what T says of the source, which objects are in the types of guards, and which cell is above which; cell 0 holds nothing
   pub record Reads (S : State) (t : StackState (network c)) (T : State) : Type 0 where
     pub holds : (x : ℕ) (w : Work) → t.holds x w ↔ (IsKnown c w × IsCell x × S (held x w))
+    pub bottom : (w : Work) → IsKnown c w → S (held 0 w) → ⊥
     pub tip : (x : ℕ) → t.tip x ↔ ((x ≤ b) × S (tip_atom x))
     pub source : AreAgreed c T S
     pub guards : (ty o : ℕ) → Contains (guard_types c) ty → S (atom (guard_predicate c ty) o) ↔ InTypeOf c o ty

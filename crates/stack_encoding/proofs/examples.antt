@@ -1,0 +1,4 @@
+-- Whole values and their texts, byte for byte: the smallest problem, and one with methods of no, one and three children.
+pub mod StackParts
+pub mod StackSmallest
+pub mod StackRow

@@ -1,0 +1,9 @@
+pub mod SameNames
+pub mod SameActions
+pub mod SameStack
+pub mod Unordered
+pub mod Lined
+pub mod SamePrinted
+pub mod Faithful
+pub mod Headlines
+pub mod Texts
