@@ -2,3 +2,5 @@
 pub mod StackParts
 pub mod StackSmallest
 pub mod StackRow
+-- Which rows are totally ordered.
+pub mod TotalRows

@@ -3,11 +3,12 @@ use Rattle.std.proofs.Common.{ℕ, ◌≡◌, true, cond, List, [], ◌∷◌, c
 use Rattle.std.specs.Fmt.{digits}
 use Rattle.htn_base.specs.Escapes.{slot_word}
 use Rattle.text_forms.specs.Words.{Word}
-use Rattle.plan_model.specs.declared.terms.Term.TheVariants.{Var}
+use Rattle.plan_model.specs.declared.terms.Term.TheVariants.{Var, Obj}
 use Rattle.plan_model.specs.declared.terms.Atom.{Atom}
 use Rattle.plan_model.specs.declared.terms.Param.{Param}
 use Rattle.plan_model.specs.declared.types.Object.{Object}
-use Rattle.plan_model.specs.declared.types.Types.{Types}
+use Rattle.plan_model.specs.declared.terms.GroundAtom.{GroundAtom}
+use Rattle.plan_model.specs.declared.values.Pddl.{Pddl}
 use Rattle.plan_model.specs.declared.formulas.Formula.{Formula}
 use Rattle.plan_model.specs.declared.formulas.Formula.TheFolds.{fold-roll-Formula}
 use Rattle.plan_model.specs.declared.formulas.Formula.TheOpen.{Formula-F}
@@ -39,13 +40,30 @@ cell word = record { name = record { number = word }; ty = 1; constant = true }
 abbrev pub predicate : ℕ → List Param → Predicate
 predicate word params = record { name = record { number = word }; params = params }
 
--- object, htn_slot and htn_object, in a row from this word on
-abbrev pub types : (object slot other : ℕ) → Types
-types object slot other = record {
-  names = record { number = object } ∷ record { number = slot } ∷ record { number = other } ∷ [];
-  parents = record { child = 1; parent = 0 } ∷ record { child = 2; parent = 0 } ∷ [];
-  unions = [];
+-- a value whose first words are those of the domain, the problem and the generated types, and where only the cells and the given predicates are
+abbrev pub value : List Word → List Object → List Predicate → List ActionSchema → List GroundAtom → Pddl
+value words objects predicates actions init = record {
+  names = words;
+  domain = record { number = 0 };
+  problem = record { number = 1 };
+  types = record {
+    names = record { number = 2 } ∷ record { number = 3 } ∷ record { number = 4 } ∷ [];
+    parents = record { child = 1; parent = 0 } ∷ record { child = 2; parent = 0 } ∷ [];
+    unions = [];
+  };
+  objects = objects;
+  predicates = predicates;
+  actions = actions;
+  init = init;
+  goal = And (Holds (record { predicate = 1; args = Obj 0 ∷ [] }) ∷ []);
 }
+
+-- a fact on cells, and what is so at the beginning: the top task in cell 1, which is the tip
+abbrev pub fact : ℕ → List ℕ → GroundAtom
+fact number cells = record { predicate = number; args = cells }
+
+abbrev pub first_facts : List GroundAtom → List GroundAtom
+first_facts ups = fact 0 (1 ∷ []) ∷ fact 1 (1 ∷ []) ∷ ups
 
 -- a predicate of variable v; where there are no source predicates, htn_top, htn_tip and htn_up are predicates 0 to 2
 abbrev pub of : (number v : ℕ) → Atom

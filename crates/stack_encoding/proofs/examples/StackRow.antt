@@ -5,13 +5,13 @@ use Rattle.std.proofs.Common.{ℕ, ◌≡◌, true, false, List, [], ◌∷◌, 
 use Rattle.text_forms.specs.Words.{Word}
 use Rattle.text_forms.specs.Printing.{bytes}
 use Rattle.plan_model.specs.declared.options.Checks.TheVariants.{AtOnce}
-use Rattle.plan_model.specs.declared.terms.Term.TheVariants.{Obj}
 use Rattle.plan_model.specs.declared.terms.Param.{Param}
 use Rattle.plan_model.specs.declared.networks.Head.TheVariants.{Task, Action}
 use Rattle.plan_model.specs.declared.formulas.Formula.TheVariants.{Holds, And}
 use Rattle.plan_model.specs.declared.effects.Effect.TheVariants as E
 use Rattle.plan_model.specs.declared.schemas.ActionSchema.{ActionSchema}
 use Rattle.plan_model.specs.declared.schemas.MethodSchema.{MethodSchema}
+use Rattle.plan_model.specs.declared.schemas.MethodPlan.{MethodPlan}
 use Rattle.plan_model.specs.declared.values.Hddl.{Hddl}
 use Rattle.plan_model.specs.declared.values.Compiled.{Compiled}
 use Rattle.plan_model.specs.declared.values.Pddl.{Pddl}
@@ -29,7 +29,7 @@ use Rattle.slot_encoding.proofs.examples.RowTexts.{digit_1, digit_2, printing}
 use Rattle.stack_encoding.specs.StackNames.{stack_objects}
 use Rattle.stack_encoding.specs.StackValue.{stack_actions, IsStackEncoded}
 use Rattle.stack_encoding.proofs.StackOver.{nothing_left}
-use Rattle.stack_encoding.proofs.examples.StackParts.{slot_0, variable, cell, predicate, types, of, up, action, falls, no_condition, no_change}
+use Rattle.stack_encoding.proofs.examples.StackParts.{slot_0, variable, cell, predicate, value, fact, first_facts, of, up, action, falls, no_condition, no_change}
 
 abbrev source : List Word
 source = codes "object" ∷ codes "d" ∷ codes "p" ∷ codes "htn_start" ∷ codes "t1" ∷ codes "act0" ∷ codes "m2" ∷ codes "m1" ∷ []
@@ -46,8 +46,17 @@ m1 = method_schema 7 0 always (child (Action 0) ∷ child (Task 0) ∷ child (Ac
 abbrev hddl : Hddl
 hddl = problem source [] (task_schema 4 ∷ []) (action_schema 5 always nothing ∷ []) (m2 ∷ m1 ∷ []) top
 
+abbrev pub top_plan : MethodPlan
+top_plan = method_plan top false (0 ∷ []) (Some 0) []
+
+abbrev pub m2_plan : MethodPlan
+m2_plan = method_plan m2 false [] None []
+
+abbrev pub m1_plan : MethodPlan
+m1_plan = method_plan m1 false (0 ∷ 1 ∷ 2 ∷ []) (Some 2) []
+
 abbrev pub row : Compiled
-row = record { hddl = hddl; methods = method_plan top false (0 ∷ []) (Some 0) [] ∷ method_plan m2 false [] None [] ∷ method_plan m1 false (0 ∷ 1 ∷ 2 ∷ []) (Some 2) [] ∷ [] }
+row = record { hddl = hddl; methods = top_plan ∷ m2_plan ∷ m1_plan ∷ [] }
 
 pub row_is_compiled : IsCompiled hddl AtOnce row
 row_is_compiled = record {
@@ -85,17 +94,10 @@ of_m1 params = action 19 params (Holds (of 3 0) ∷ Holds (of 1 0) ∷ Holds (up
     (E.Delete (of 3 0) ∷ E.Add (of 4 2) ∷ E.Add (of 3 1) ∷ E.Add (of 4 0) ∷ E.Delete (of 1 0) ∷ E.Add (of 1 2) ∷ [])
 
 abbrev pub printed : Pddl
-printed = record {
-  names = words;
-  domain = record { number = 0 };
-  problem = record { number = 1 };
-  types = types 2 3 4;
-  objects = cell 5 ∷ cell 6 ∷ cell 7 ∷ [];
-  predicates = predicate 12 (h ∷ []) ∷ predicate 13 (h ∷ []) ∷ predicate 14 (x ∷ h ∷ []) ∷ predicate 15 (h ∷ []) ∷ predicate 16 (h ∷ []) ∷ [];
-  actions = start ∷ falls 18 (d ∷ h ∷ []) 3 [] [] ∷ of_m1 (h ∷ variable 20 ∷ variable 21 ∷ []) ∷ falls 22 (d ∷ h ∷ []) 4 [] [] ∷ [];
-  init = record { predicate = 0; args = 1 ∷ [] } ∷ record { predicate = 1; args = 1 ∷ [] } ∷ record { predicate = 2; args = 0 ∷ 1 ∷ [] } ∷ record { predicate = 2; args = 1 ∷ 2 ∷ [] } ∷ [];
-  goal = And (Holds (record { predicate = 1; args = Obj 0 ∷ [] }) ∷ []);
-}
+printed = value words (cell 5 ∷ cell 6 ∷ cell 7 ∷ [])
+    (predicate 12 (h ∷ []) ∷ predicate 13 (h ∷ []) ∷ predicate 14 (x ∷ h ∷ []) ∷ predicate 15 (h ∷ []) ∷ predicate 16 (h ∷ []) ∷ [])
+    (start ∷ falls 18 (d ∷ h ∷ []) 3 [] [] ∷ of_m1 (h ∷ variable 20 ∷ variable 21 ∷ []) ∷ falls 22 (d ∷ h ∷ []) 4 [] [] ∷ [])
+    (first_facts (fact 2 (0 ∷ 1 ∷ []) ∷ fact 2 (1 ∷ 2 ∷ []) ∷ []))
 
 -- a variable behind htn_h, by its numeral
 abbrev further : List ℕ → Param

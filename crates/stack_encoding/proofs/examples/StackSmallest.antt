@@ -2,7 +2,6 @@
 use Rattle.std.proofs.Common.{◌≡◌, true, List, [], ◌∷◌, ◌++◌, codes, refl, sym, subst, Contains}
 use Rattle.text_forms.specs.Words.{Word}
 use Rattle.text_forms.specs.Printing.{bytes}
-use Rattle.plan_model.specs.declared.terms.Term.TheVariants.{Obj}
 use Rattle.plan_model.specs.declared.terms.Param.{Param}
 use Rattle.plan_model.specs.declared.formulas.Formula.{Formula}
 use Rattle.plan_model.specs.declared.formulas.Formula.TheVariants.{Holds, And}
@@ -26,7 +25,7 @@ use Rattle.stack_encoding.specs.StackWords.{stack_words}
 use Rattle.stack_encoding.specs.StackPrinted.{IsFullyStackEncoded}
 use Rattle.stack_encoding.proofs.StackOver.{nothing_left}
 use Rattle.stack_encoding.proofs.said.StackSame.{stack_texts-same}
-use Rattle.stack_encoding.proofs.examples.StackParts.{slot_0, variable, cell, predicate, types, of, action, falls, no_condition, no_change, no_words, no_effect_words}
+use Rattle.stack_encoding.proofs.examples.StackParts.{slot_0, variable, cell, predicate, value, fact, first_facts, of, action, falls, no_condition, no_change, no_words, no_effect_words}
 
 abbrev pub words : List Word
 words =
@@ -55,17 +54,10 @@ a pre eff = falls 18 (d ∷ h ∷ []) 4 pre eff
 
 -- the cells are objects 0 and 1
 abbrev pub printed : Pddl
-printed = record {
-  names = words;
-  domain = record { number = 0 };
-  problem = record { number = 1 };
-  types = types 2 3 4;
-  objects = cell 5 ∷ cell 6 ∷ [];
-  predicates = predicate 11 (h ∷ []) ∷ predicate 12 (h ∷ []) ∷ predicate 13 (x ∷ h ∷ []) ∷ predicate 14 (h ∷ []) ∷ predicate 15 (h ∷ []) ∷ [];
-  actions = start ∷ of_t ∷ a [] [] ∷ [];
-  init = record { predicate = 0; args = 1 ∷ [] } ∷ record { predicate = 1; args = 1 ∷ [] } ∷ record { predicate = 2; args = 0 ∷ 1 ∷ [] } ∷ [];
-  goal = And (Holds (record { predicate = 1; args = Obj 0 ∷ [] }) ∷ []);
-}
+printed = value words (cell 5 ∷ cell 6 ∷ [])
+    (predicate 11 (h ∷ []) ∷ predicate 12 (h ∷ []) ∷ predicate 13 (x ∷ h ∷ []) ∷ predicate 14 (h ∷ []) ∷ predicate 15 (h ∷ []) ∷ [])
+    (start ∷ of_t ∷ a [] [] ∷ [])
+    (first_facts (fact 2 (0 ∷ 1 ∷ []) ∷ []))
 
 objects_are : cell 5 ∷ cell 6 ∷ [] ≡ stack_objects smallest words 1
 objects_are = λ i. record { name = name words (sym slot_0 i); ty = 1; constant = true } ∷ record { name = name words (sym slot_1 i); ty = 1; constant = true } ∷ []

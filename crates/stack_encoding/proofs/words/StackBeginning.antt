@@ -36,22 +36,16 @@ use Rattle.stack_encoding.proofs.words.KnownParts.{AreKnown}
 use Rattle.stack_encoding.proofs.words.StackDeclared.{stack_declared, stack_arities, stack_extended, Takes, takes, object_within}
 
 module _ (c : Compiled) (names : List Word) (b : ℕ) (sound : IsSoundHddl c.hddl) (known : AreKnown c b names) where
-  abbrev v : Declared
-  v = hddl_words c.hddl
+  abbrev ar' : List ℕ
+  ar' = stack_arities c names b
 
   abbrev v' : Declared
   v' = stack_declared c names b
 
-  abbrev ar : List ℕ
-  ar = arities c.hddl
-
-  abbrev ar' : List ℕ
-  ar' = stack_arities c names b
-
   abbrev Good : GroundAtom → Type 0
   Good g = IsSoundAtom v' ar' [] g.predicate (map Obj g.args)
 
-  more : AreExtended v v' ar ar'
+  more : AreExtended (hddl_words c.hddl) v' (arities c.hddl) ar'
   more = stack_extended c names b sound known.types
 
   within : (o : ℕ) → o ≤ cell_object c b → IsInForce v' ar' [] (Obj o)
@@ -66,11 +60,11 @@ module _ (c : Compiled) (names : List Word) (b : ℕ) (sound : IsSoundHddl c.hdd
 
   of_source : (g : GroundAtom) → Has c.hddl.init g → Good g
   of_source g m =
-      let s = each-has (λ (g : GroundAtom). IsSoundAtom v ar [] g.predicate (map Obj g.args)) c.hddl.init g sound.init m in
+      let s = each-has (λ (g : GroundAtom). IsSoundAtom (hddl_words c.hddl) (arities c.hddl) [] g.predicate (map Obj g.args)) c.hddl.init g sound.init m in
       let p = more.predicates g.predicate s.0 in
       (p.0, s.1 ∙ sym p.1, objects g.args s.2)
     where
-      objects : (os : List ℕ) → EachIs (IsInForce v ar []) (map Obj os) → EachIs (IsInForce v' ar' []) (map Obj os)
+      objects : (os : List ℕ) → EachIs (IsInForce (hddl_words c.hddl) (arities c.hddl) []) (map Obj os) → EachIs (IsInForce v' ar' []) (map Obj os)
       objects [] e = tt
       objects (o ∷ os) e = ((let l = e.0 in let k = more.objects in omega arith), objects os e.1)
 
@@ -105,4 +99,4 @@ module _ (c : Compiled) (names : List Word) (b : ℕ) (sound : IsSoundHddl c.hdd
     where
       go : (t : Bool) → EachIs (λ (g : Formula). IsSound (stack_declared c names b) (stack_arities c names b) g []) (cond t [] (source_formula names c.hddl.names 0 c.hddl.goal ∷ []))
       go true = tt
-      go false = (sound_formula v v' ar ar' (stack_extended c names b sound known.types) [] c.hddl.goal [] sound.goal known.goal, tt)
+      go false = (sound_formula (hddl_words c.hddl) v' (arities c.hddl) ar' (stack_extended c names b sound known.types) [] c.hddl.goal [] sound.goal known.goal, tt)
