@@ -1,5 +1,5 @@
 -- What holds by each form of what is printed.
-use Rattle.std.proofs.Common.{ℕ, zero, suc, ◌≡◌, ◌≤◌, ◌⊎◌, inl, inr, List, length, Option, Some, None, slice_get, option_map, refl, sym, ap, ◌∙◌, subst}
+use Rattle.std.proofs.Common.{ℕ, zero, suc, ◌<◌, ◌^◌, ◌≡◌, ◌≤◌, ◌⊎◌, inl, inr, List, length, Option, Some, None, slice_get, option_map, refl, sym, ap, ◌∙◌, subst}
 use Rattle.plan_model.specs.declared.options.Checks.{Checks}
 use Rattle.plan_model.specs.declared.options.Slots as rule
 use Rattle.plan_model.specs.declared.options.Slots.TheVariants.{Any, First}
@@ -28,6 +28,8 @@ use Rattle.stack_encoding.specs.StackValue.{IsStackEncoded}
 use Rattle.stack_encoding.specs.StackWords.{HasStackWords}
 use Rattle.stack_encoding.specs.StackPrinted.{IsPrintedStack}
 use Rattle.stack_encoding.proofs.StackOver.{has_stack_value}
+use Rattle.stack_encoding.proofs.said.StackSame.{stack_texts-same}
+use Rattle.stack_encoding.proofs.words.StackIsPrintable.{countable_stack_printable}
 use Rattle.stack_proof.specs.OrderedAlike.{AreOrderedAlike, IsOrderedOrHasOneFirst}
 use Rattle.stack_proof.specs.StackTexts.{AreStackTexts}
 use Rattle.stack_proof.proofs.texts.Headlines as stack
@@ -61,13 +63,13 @@ module _ (by : rule.Slots) (c : Compiled) (b : ℕ) (style : Style) where
   -- all have the same texts
   pub same_texts : (form : PrintedForm) (v w : Pddl) → IsFully form by c b style v → IsFully form by c b style w → (domain_text v ≡ domain_text w) × (problem_text v ≡ problem_text w)
   same_texts Slots v w e f = encoded_texts-same-by by c b style v w (record { encoded = e.encoded; words = e.words }) (record { encoded = f.encoded; words = f.words })
-  same_texts Stack v w e f = stack_texts-same c b v w e.encoded e.words f.encoded f.words
+  same_texts Stack v w e f = stack_texts-same c b v w (record { encoded = e.encoded; words = e.words }) (record { encoded = f.encoded; words = f.words })
 
   module _ (h : Hddl) (checks : Checks) (p : Pddl) (sound : IsSoundHddl h) (compiled : IsCompiled h checks c) where
     -- and can be printed
-    pub printable_of : (form : PrintedForm) → IsEncodedAs form by c b style p → HasWordsAs form by c b p.names → IsCountable c b → IsPrintable p
-    printable_of Slots encoded words countable = countable_printable-by by h checks c b style p sound compiled encoded words countable
-    printable_of Stack encoded words countable = countable_stack_printable h checks c b p sound compiled encoded words countable
+    pub printable_of : (form : PrintedForm) → IsEncodedAs form by c b style p → HasWordsAs form by c b p.names → IsCountable c b → suc b < 2 ^ 64 → IsPrintable p
+    printable_of Slots encoded words countable few = countable_printable-by by h checks c b style p sound compiled encoded words countable
+    printable_of Stack encoded words countable few = countable_stack_printable h checks c b p sound compiled encoded words countable few
 
     pub printed_as : (form : PrintedForm) → IsOrderedFor form c → IsPrintable p → IsEncodedAs form by c b style p → IsPrintedAs form by h checks c b style p
     printed_as Slots ordered printable encoded = printed_of by h checks c b style p sound compiled printable encoded
@@ -148,8 +150,7 @@ module _ (d p : List ℕ) (checks : Checks) (c k : Compiled) (one : SpellProblem
         is_compiled = s.compiled_is;
         ordered = o;
         value = u;
-        is_encoded = encoded;
-        words = words;
+        is_encoded = record { encoded = encoded; words = words };
         domain_is = refl;
         problem_is = refl;
       }

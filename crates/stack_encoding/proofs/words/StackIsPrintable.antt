@@ -1,5 +1,5 @@
 -- The value of a stack of a sound problem, over a table that has all its words, is printable.
-use Rattle.std.proofs.Common.{ℕ, List, map, sym, subst}
+use Rattle.std.proofs.Common.{ℕ, suc, ◌<◌, ◌^◌, List, map, sym, subst, arith}
 use Rattle.text_forms.specs.Words.{Word}
 use Rattle.plan_model.specs.declared.options.Checks.{Checks}
 use Rattle.plan_model.specs.declared.terms.GroundAtom.{GroundAtom}
@@ -14,6 +14,7 @@ use Rattle.plan_texts.specs.Printable.{IsPlain, AreSoundParams, IsSound, IsSound
 use Rattle.plan_texts.specs.SoundValue.{IsSoundHddl}
 use Rattle.plan_texts.specs.PrintableValue.{IsPrintable}
 use Rattle.slot_encoding.specs.EncodedWords.{own_word}
+use Rattle.slot_encoding.specs.Countable.{IsCountable}
 use Rattle.slot_encoding.specs.Numberable.{IsNumberable}
 use Rattle.slot_encoding.proofs.words.Lists.{each-weaker}
 use Rattle.slot_encoding.proofs.words.PlainWords.{plain-escaped}
@@ -33,12 +34,12 @@ use Rattle.stack_encoding.proofs.words.StackBeginning.{stack_init_sound, stack_g
 use Rattle.stack_encoding.proofs.words.StackDeclared.{stack_declared, stack_arities}
 
 module _ (mode : Checks) (c : Compiled) (b : ℕ) (names : List Word) (init : List GroundAtom)
-    (sound : IsSoundHddl c.hddl) (compiled : IsCompiled c.hddl mode c) (initial : IsInitial c names b init) (known : AreKnown c b names) (few : IsNumberable c b names) where
+    (sound : IsSoundHddl c.hddl) (compiled : IsCompiled c.hddl mode c) (initial : IsInitial c names b init) (known : AreKnown c b names) (few : IsCountable c b) (cells : suc b < 2 ^ 64) where
   abbrev Sound : ActionSchema → Type 0
   Sound = IsSoundAction (stack_declared c names b) (stack_arities c names b)
 
   each : (P : ActionSchema → Type 0) → ((a : ActionSchema) → Sound a → P a) → EachIs P (stack_actions c names b)
-  each P h = each-weaker Sound P (stack_actions c names b) h (stack_actions_sound c names b sound known mode compiled (few_children c b names known few.short))
+  each P h = each-weaker Sound P (stack_actions c names b) h (stack_actions_sound c names b sound known mode compiled few.few_children)
 
   pub over_printable : IsPrintable (stack_over c b names init)
   over_printable = record {
@@ -49,7 +50,7 @@ module _ (mode : Checks) (c : Compiled) (b : ℕ) (names : List Word) (init : Li
       types_differ = types_differ c names b sound known.types;
       unions = unions_printed c names b sound known.types;
       objects = objects_plain c names b sound known;
-      objects_differ = objects_differ c names b sound known (few_cells c b names known few.short);
+      objects_differ = objects_differ c names b sound known cells;
       predicates = predicates_plain c names b sound known mode compiled few.top;
       predicates_differ = predicates_differ c names b sound known mode compiled few.top few.unions;
     };
@@ -68,8 +69,18 @@ module _ (mode : Checks) (c : Compiled) (b : ℕ) (names : List Word) (init : Li
     goal = stack_goal_sound c names b sound known;
   }
 
-pub stack_printable : (h : Hddl) (mode : Checks) (c : Compiled) (b : ℕ) (p : Pddl) → IsSoundHddl h → IsCompiled h mode c → IsStackEncoded c b p → HasStackWords c b p.names → IsNumberable c b p.names → IsPrintable p
-stack_printable h mode c b p sound compiled encoded has few =
+-- however many words its table has
+pub countable_stack_printable : (h : Hddl) (mode : Checks) (c : Compiled) (b : ℕ) (p : Pddl)
+    → IsSoundHddl h → IsCompiled h mode c → IsStackEncoded c b p → HasStackWords c b p.names → IsCountable c b → suc b < 2 ^ 64 → IsPrintable p
+countable_stack_printable h mode c b p sound compiled encoded has few cells =
     let s = subst IsSoundHddl (sym compiled.hddl) sound in
     let k = subst (λ z. IsCompiled z mode c) (sym compiled.hddl) compiled in
-    subst IsPrintable (sym (is_stack_over c b p encoded)) (over_printable mode c b p.names p.init s k encoded.init (known_parts c b p.names has) few)
+    subst IsPrintable (sym (is_stack_over c b p encoded)) (over_printable mode c b p.names p.init s k encoded.init (known_parts c b p.names has) few cells)
+
+pub stack_printable : (h : Hddl) (mode : Checks) (c : Compiled) (b : ℕ) (p : Pddl)
+    → IsSoundHddl h → IsCompiled h mode c → IsStackEncoded c b p → HasStackWords c b p.names → IsNumberable c b p.names → IsPrintable p
+stack_printable h mode c b p sound compiled encoded has few =
+    let known = known_parts c b p.names has in
+    let cells = few_cells c b p.names known few.short in
+    countable_stack_printable h mode c b p sound compiled encoded has
+    (record { top = few.top; some_slot = few.some_slot; few_slots = omega (arith, cells); few_children = few_children c b p.names known few.short; unions = few.unions }) cells
