@@ -10,13 +10,14 @@ use Rattle.command_words.specs.declared.level.Level.{Level}
 use Rattle.command_words.specs.Names.{Word}
 use Rattle.command_words.specs.Words.{DecodeRequest, to_decode}
 use Rattle.htn_cli.specs.Answer.{told_alone}
-use Rattle.htn_cli.specs.Decoding.{SpellSteps, SpellFewSteps, IsForSlots, GivesTree}
+use Rattle.htn_cli.specs.Decoding.{SpellSteps, SpellFewSteps, SpellFormSteps, IsForSlots, GivesTree}
 use Rattle.htn_cli.specs.LeastFaults.{IsLeastWithPlan, of_problem, of_third}
 use Rattle.htn_cli.specs.Levels.{IsBoundAt}
+use Rattle.htn_cli.specs.PrintedForms.{IsOrderedFor}
 use Rattle.htn_cli.specs.Problem.{SpellProblem}
 use Rattle.htn_cli.specs.Requests.{inputs_of}
 use Rattle.htn_cli.specs.Slots.{RefusesSlots}
-use Rattle.htn_cli.specs.Stops.{StopsFault, StopsTexts, IsFaultOfThird, StopsBound, IsGiven, IsChosen, StopsChosen, IsInRange, StopsSteps, StopsTreeWith, StopsTree, IsToldFor, StopsTelling}
+use Rattle.htn_cli.specs.Stops.{StopsFault, StopsTexts, IsFaultOfThird, StopsOrder, StopsBound, IsGiven, IsChosen, StopsChosen, IsInRange, StopsSteps, StopsTreeWith, StopsTree, IsToldFor, StopsTelling}
 use Rattle.htn_cli.specs.Translation.{AreSlotsOf}
 use Rattle.htn_cli.specs.declared.refusal.Failure.TheVariants as failure
 use Rattle.htn_cli.specs.declared.refusal.Finding.TheVariants as finding
@@ -81,58 +82,68 @@ module _ (r : DecodeRequest) (d p plan : List ℕ) where
         spell_few : SpellFewSteps r d p plan c steps
         spell_few = record { spelled = spell; few = few }
 
-        bound_stops : r.numeral ≡ None → (refusal : Refusal) → StopsBound r.level c refusal → Stopped refusal
-        bound_stops none (refused.Finding (finding.NotTailRecursive words)) stops = inr (none, (c, steps, spell_few, stops))
-        bound_stops none (refused.Limit limit.Ground) stops = inr (none, (c, steps, spell_few, stops))
-        bound_stops none (refused.Limit limit.Bound) (n, bound, past) = inr (none, (c, steps, n, spell_few, bound, past))
-        bound_stops none (refused.Failure failure.Memory) stops = tt
-        bound_stops none _ stops = absurd stops
+        order_stops : (refusal : Refusal) → StopsOrder r.form c refusal → Stopped refusal
+        order_stops (refused.Finding (finding.NotTotallyOrdered word)) (stack, named) = inr (stack, (c, steps, spell_few, named))
+        order_stops (refused.Failure failure.Memory) stops = tt
+        order_stops _ stops = absurd stops
 
-        computed_past : r.numeral ≡ None → (n : ℕ) → IsBoundAt r.level c n → (refusal : Refusal) → RefusesSlots most_slots n refusal → Stopped refusal
-        computed_past none n bound (refused.Limit limit.Bound) stops = inr (none, (c, steps, n, spell_few, bound, stops))
-        computed_past none n bound (refused.Limit (limit.Slots m)) stops = inr (none, (c, steps, n, spell_few, bound, stops))
-        computed_past none n bound _ stops = absurd stops
+        module _ (ordered : IsOrderedFor r.form c) where
+          spell_form : SpellFormSteps r d p plan c steps
+          spell_form = record { spelled = spell_few; ordered = ordered }
 
-        chosen_stops : (refusal : Refusal) → StopsChosen most_slots r.level c g refusal → Stopped refusal
-        chosen_stops refusal stops = go r.numeral g is stops refl
-          where
-            go : (o : Option Word) (g : Option ℕ) → IsGiven most_slots o g → StopsChosen most_slots r.level c g refusal → r.numeral ≡ o → Stopped refusal
-            go o (Some g) is stops e = absurd stops
-            go (Some word) None is stops e = absurd is
-            go None None is (inl stops) e = bound_stops e refusal stops
-            go None None is (inr (n, bound, stops)) e = computed_past e n bound refusal stops
+          bound_stops : r.numeral ≡ None → (refusal : Refusal) → StopsBound r.level c refusal → Stopped refusal
+          bound_stops none (refused.Finding (finding.NotTailRecursive words)) stops = inr (none, (c, steps, spell_form, stops))
+          bound_stops none (refused.Limit limit.Ground) stops = inr (none, (c, steps, spell_form, stops))
+          bound_stops none (refused.Limit limit.Bound) (n, bound, past) = inr (none, (c, steps, n, spell_form, bound, past))
+          bound_stops none (refused.Failure failure.Memory) stops = tt
+          bound_stops none _ stops = absurd stops
 
-        module _ (slots : ℕ) (chosen : IsChosen most_slots r.level c g slots) where
-          for_slots : IsForSlots r d p plan c steps slots
-          for_slots = go r.numeral g is chosen refl
+          computed_past : r.numeral ≡ None → (n : ℕ) → IsBoundAt r.level c n → (refusal : Refusal) → RefusesSlots most_slots n refusal → Stopped refusal
+          computed_past none n bound (refused.Limit limit.Bound) stops = inr (none, (c, steps, n, spell_form, bound, stops))
+          computed_past none n bound (refused.Limit (limit.Slots m)) stops = inr (none, (c, steps, n, spell_form, bound, stops))
+          computed_past none n bound _ stops = absurd stops
+
+          chosen_stops : (refusal : Refusal) → StopsChosen most_slots r.level c g refusal → Stopped refusal
+          chosen_stops refusal stops = go r.numeral g is stops refl
             where
-              go : (o : Option Word) (g : Option ℕ) → IsGiven most_slots o g → IsChosen most_slots r.level c g slots → r.numeral ≡ o → IsForSlots r d p plan c steps slots
-              go None None is (n, bound, are) e =
-                  record { spelled = spell_few; slots_are = subst (λ z. AreSlotsOf r.level c z slots) (sym e) (subst (IsBoundAt r.level c) (sym are.same) bound); some_slot = are.some; few_slots = are.few }
-              go None (Some g) is chosen e = absurd is
-              go (Some word) None is chosen e = absurd is
-              go (Some word) (Some g) is chosen e =
-                  record { spelled = spell_few; slots_are = subst (λ z. AreSlotsOf r.level c z slots) (sym e) (chosen ∙ is.same); some_slot = subst (λ z. 1 ≤ z) (sym chosen) is.some; few_slots = subst (λ z. z ≤ most_slots) (sym chosen) is.few }
+              go : (o : Option Word) (g : Option ℕ) → IsGiven most_slots o g → StopsChosen most_slots r.level c g refusal → r.numeral ≡ o → Stopped refusal
+              go o (Some g) is stops e = absurd stops
+              go (Some word) None is stops e = absurd is
+              go None None is (inl stops) e = bound_stops e refusal stops
+              go None None is (inr (n, bound, stops)) e = computed_past e n bound refusal stops
 
-          with_stops : (refusal : Refusal) → StopsTreeWith c slots steps refusal → Stopped refusal
-          with_stops (refused.Finding (finding.SpellsNoSolution step why)) fails = inr (c, steps, slots, for_slots, fails)
-          with_stops (refused.Limit (limit.Output n)) (text, have, e, past) = inr (c, steps, slots, text, for_slots, have, e, past)
-          with_stops (refused.Failure failure.Memory) stops = tt
-          with_stops _ stops = absurd stops
+          module _ (slots : ℕ) (chosen : IsChosen most_slots r.level c g slots) where
+            for_slots : IsForSlots r d p plan c steps slots
+            for_slots = go r.numeral g is chosen refl
+              where
+                go : (o : Option Word) (g : Option ℕ) → IsGiven most_slots o g → IsChosen most_slots r.level c g slots → r.numeral ≡ o → IsForSlots r d p plan c steps slots
+                go None None is (n, bound, are) e =
+                    record { spelled = spell_few; ordered = ordered; slots_are = subst (λ z. AreSlotsOf r.level c z slots) (sym e) (subst (IsBoundAt r.level c) (sym are.same) bound); some_slot = are.some; few_slots = are.few }
+                go None (Some g) is chosen e = absurd is
+                go (Some word) None is chosen e = absurd is
+                go (Some word) (Some g) is chosen e =
+                    record { spelled = spell_few; ordered = ordered; slots_are = subst (λ z. AreSlotsOf r.level c z slots) (sym e) (chosen ∙ is.same); some_slot = subst (λ z. 1 ≤ z) (sym chosen) is.some; few_slots = subst (λ z. z ≤ most_slots) (sym chosen) is.few }
 
-      tree_stops : (refusal : Refusal) → StopsTree r.level c g steps refusal → Stopped refusal
+            with_stops : (refusal : Refusal) → StopsTreeWith r.form c slots steps refusal → Stopped refusal
+            with_stops (refused.Finding (finding.SpellsNoSolution step why)) fails = inr (c, steps, slots, for_slots, fails)
+            with_stops (refused.Limit (limit.Output n)) (text, have, e, past) = inr (c, steps, slots, text, for_slots, have, e, past)
+            with_stops (refused.Failure failure.Memory) stops = tt
+            with_stops _ stops = absurd stops
+
+      tree_stops : (refusal : Refusal) → StopsTree r.form r.level c g steps refusal → Stopped refusal
       tree_stops refusal (inl stops) = steps_stop refusal stops
-      tree_stops refusal (inr (few, inl stops)) = chosen_stops few refusal stops
-      tree_stops refusal (inr (few, inr (slots, chosen, stops))) = with_stops few slots chosen refusal stops
+      tree_stops refusal (inr (few, inl stops)) = order_stops few refusal stops
+      tree_stops refusal (inr (few, inr (ordered, inl stops))) = chosen_stops few ordered refusal stops
+      tree_stops refusal (inr (few, inr (ordered, inr (slots, chosen, stops)))) = with_stops few ordered slots chosen refusal stops
 
     -- the third has a fault, or its steps give no text
-    pub telling_stops : (refusal : Refusal) → StopsTelling r.level c g (inputs_of (to_decode r)) plan refusal → Stopped refusal
+    pub telling_stops : (refusal : Refusal) → StopsTelling r.form r.level c g (inputs_of (to_decode r)) plan refusal → Stopped refusal
     telling_stops refusal (inl stops) = third_stops refusal stops
     telling_stops refusal (inr (steps, read, stops)) = tree_stops steps read refusal stops
 
     -- what is told
-    pub gives_tree : (text : List ℕ) → IsToldFor r.level c g plan text → GivesTree r d p plan (told_alone text)
-    gives_tree text (steps, read, (slots, few, chosen, have, short)) = (c, steps, slots, text, for_slots steps read few slots chosen, have, refl)
+    pub gives_tree : (text : List ℕ) → IsToldFor r.form r.level c g plan text → GivesTree r d p plan (told_alone text)
+    gives_tree text (steps, read, (slots, few, ordered, chosen, have, short)) = (c, steps, slots, text, for_slots steps read few ordered slots chosen, have, refl)
 
-    pub tree_fits : (text : List ℕ) → IsToldFor r.level c g plan text → length text ≤ longest_output
-    tree_fits text (steps, read, (slots, few, chosen, have, short)) = short
+    pub tree_fits : (text : List ℕ) → IsToldFor r.form r.level c g plan text → length text ≤ longest_output
+    tree_fits text (steps, read, (slots, few, ordered, chosen, have, short)) = short

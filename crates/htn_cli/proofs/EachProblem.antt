@@ -4,6 +4,7 @@ use Rattle.htn_base.specs.Limits.{most_slots}
 use Rattle.outside_io.specs.Sink.{SinkState}
 use Rattle.plan_model.specs.declared.options.Checks.{Checks}
 use Rattle.plan_model.specs.declared.options.Slots.{Slots}
+use Rattle.plan_model.specs.declared.options.Slots.TheVariants.{Any}
 use Rattle.plan_model.specs.declared.options.Style.{Style}
 use Rattle.plan_model.specs.declared.options.Style.TheVariants.{Adl}
 use Rattle.plan_model.specs.declared.steps.GroundAction.{GroundAction}
@@ -14,14 +15,9 @@ use Rattle.plan_model.specs.plan_meaning.Bound.{IsBound}
 use Rattle.plan_model.specs.plan_meaning.Compilation.{IsCompiled}
 use Rattle.plan_texts.specs.FirstSeen.{IsHddlOf}
 use Rattle.plan_texts.specs.PrintedTexts.{domain_text, problem_text}
-use Rattle.slot_encoding.specs.Existence.{HasEncodedValue}
-use Rattle.slot_encoding.specs.Printed.{IsPrinted}
-use Rattle.slot_encoding.proofs.existence.Encoded.{has_encoded_value}
-use Rattle.slot_encoding.proofs.words.EncodedIsPrintable.{countable_printable}
-use Rattle.plan_proof.specs.Headline.{Headline, HeadlineBy, SpellsSolution}
+use Rattle.plan_proof.specs.Headline.{HeadlineBy, SpellsSolutionBy}
 use Rattle.plan_proof.specs.OneGraph.{HaveOneGraph}
 use Rattle.plan_proof.proofs.one.OneGraph.{one_graph}
-use Rattle.plan_proof.proofs.values.Headlines.{headline_of}
 use Rattle.stack_proof.specs.OrderedAlike.{AreOrderedAlike}
 use Rattle.bound_calc.specs.NoBound.{spaced}
 use Rattle.reached_parts.specs.HowMany.{most_reached, IsAtMost}
@@ -32,7 +28,7 @@ use Rattle.command_words.specs.declared.level.Level.TheVariants.{Lifted, Ground}
 use Rattle.command_words.specs.Names.{Word}
 use Rattle.command_words.specs.Words.{number_of}
 use Rattle.htn_cli.specs.Levels.{IsBoundAt, NamesCycleAt}
-use Rattle.htn_cli.specs.PrintedForms.{NamesUnordered, SpellingAs, IsPrintedAs}
+use Rattle.htn_cli.specs.PrintedForms.{IsOrderedFor, NamesUnordered, SpellingAs, HasEncodedValueAs, IsPrintedAs}
 use Rattle.htn_cli.specs.Problem.{SpellProblem}
 use Rattle.htn_cli.specs.Refusal.{line_of}
 use Rattle.htn_cli.specs.Sent.{Told}
@@ -41,7 +37,7 @@ use Rattle.htn_cli.specs.promise.Cycle.{TellsCycle, TellsUnordered}
 use Rattle.htn_cli.specs.declared.refusal.Finding.TheVariants as finding
 use Rattle.htn_cli.specs.declared.refusal.Refusal.TheVariants as refused
 use Rattle.htn_cli.proofs.SameCycles.{named_back, words_same}
-use Rattle.htn_cli.proofs.ByForm.{headline, printed_too, word_same}
+use Rattle.htn_cli.proofs.ByForm.{has_value, printable_of, printed_as, headline, printed_too, word_same}
 use Rattle.stack_proof.proofs.texts.Lined as lined
 use Rattle.htn_cli.proofs.SomeCounts.{countable}
 
@@ -109,23 +105,21 @@ module _ (d p : List ℕ) (checks : Checks) (c : Compiled) (source : SpellProble
       headline d p source.value checks c slots style value source.read.spelled source.read.ordered rule form here
 
   -- and some texts are printed
-  module _ (slots : ℕ) (some : 1 ≤ slots) (few : slots ≤ most_slots) where
-    pub encoded : HasEncodedValue c slots Adl
-    encoded = has_encoded_value c slots Adl
+  module _ (form : PrintedForm) (ordered : IsOrderedFor form c) (slots : ℕ) (some : 1 ≤ slots) (few : slots ≤ most_slots) where
+    pub encoded : HasEncodedValueAs form Any c slots Adl
+    encoded = has_value Any c slots Adl form
 
-    printed : IsPrinted source.value checks c slots Adl encoded.value
-    printed = record {
-      sound = source.read.sound.value;
-      compiled = source.compiled_is;
-      printable =
-          countable_printable source.value checks c slots Adl encoded.value source.read.sound.value source.compiled_is encoded.encoded encoded.words
-          (countable source.value checks c slots source.read.sound source.compiled_is some few);
-      encoded = encoded.encoded;
-    }
+    printed : IsPrintedAs form Any source.value checks c slots Adl encoded.value
+    printed =
+        printed_as Any c slots Adl source.value checks encoded.value source.read.sound.value source.compiled_is form ordered
+        (printable_of Any c slots Adl source.value checks encoded.value source.read.sound.value source.compiled_is form encoded.encoded encoded.words
+        (countable source.value checks c slots source.read.sound source.compiled_is some few))
+        encoded.encoded
 
-    pub each_faithful : Headline d p checks slots (domain_text encoded.value) (problem_text encoded.value)
-    each_faithful = headline_of d p source.value checks c slots Adl encoded.value source.read.spelled printed source.read.ordered
+    pub each_faithful : HeadlineBy (SpellingAs form Any) d p checks slots (domain_text encoded.value) (problem_text encoded.value)
+    each_faithful = headline d p source.value checks c slots Adl encoded.value source.read.spelled source.read.ordered Any form printed
 
     -- so what spells a solution of one spells one of the other
-    pub solution_here : (steps : List GroundAction) (h : Hddl) (k : Compiled) → IsHddlOf d p h → IsCompiled h checks k → SpellsSolution k slots steps → SpellsSolution c slots steps
+    pub solution_here : (steps : List GroundAction) (h : Hddl) (k : Compiled) → IsHddlOf d p h → IsCompiled h checks k → SpellsSolutionBy (SpellingAs form Any) k slots steps
+        → SpellsSolutionBy (SpellingAs form Any) c slots steps
     solution_here steps h k s is x = ((each_faithful source.value c source.read.spelled source.compiled_is).plans steps).0 (((each_faithful h k s is).plans steps).1 x)

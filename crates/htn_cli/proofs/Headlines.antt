@@ -74,6 +74,7 @@ use Rattle.htn_cli.proofs.Endings.{asked_left, asked_done, never_done}
 use Rattle.htn_cli.proofs.Validations.{sound_apart}
 use Rattle.htn_cli.proofs.ByForm.{headline, at_bound, one_plan, one_plan_for_tree}
 use Rattle.htn_cli.proofs.EachProblem.{slots_given, slots_computed, bound_at_each, cycle_of_each, unordered_of_each, faithful_of_each}
+use Rattle.htn_cli.proofs.DecodedByForm.{ValuesAreDecodedAlikeAs, alike_as}
 use Rattle.htn_cli.proofs.LawsUsed.{LawsUsed}
 use Rattle.htn_cli.proofs.MadeTold.{keeps_made, nothing_made}
 use Rattle.htn_cli.proofs.PruneTold.{keeps_pruned, unsolved_here}
@@ -197,10 +198,12 @@ finding_here laws (to_translate r) (d ∷ p ∷ []) (finding.NotTailRecursive wo
     inr (cycle_of_each d p r.checks c source laws.ground r.level words named err err' line)
 finding_here laws (to_bound r) (d ∷ p ∷ []) (finding.NotTailRecursive words) (c, source, named) err err' line =
     cycle_of_each d p r.checks c source laws.ground r.level words named err err' line
+finding_here laws (to_decode r) (d ∷ p ∷ plan ∷ []) (finding.NotTotallyOrdered word) (stack, (c, steps, spelled, named)) err err' line =
+    inl (stack, unordered_of_each d p r.checks c spelled.spelled.problem_is word named err err' line)
 finding_here laws (to_decode r) (d ∷ p ∷ plan ∷ []) (finding.NotTailRecursive words) (none, (c, steps, spelled, named)) err err' line =
-    inl (none, cycle_of_each d p r.checks c spelled.spelled.problem_is laws.ground r.level words named err err' line)
+    inr (inl (none, cycle_of_each d p r.checks c spelled.spelled.spelled.problem_is laws.ground r.level words named err err' line))
 finding_here laws (to_decode r) (d ∷ p ∷ plan ∷ []) (finding.SpellsNoSolution step why) (c, steps, slots, is, fails) err err' line =
-    inr (none_here laws.decoded laws.ground r d p plan c steps slots is step why fails err err' line)
+    inr (inr (none_here (alike_as laws.decoded laws.stack_decoded) laws.ground r d p plan c steps slots is step why fails err err' line))
 finding_here laws (to_encode r) (d ∷ p ∷ hplan ∷ []) f (c, plan, s, is) err err' line = no_steps_here laws.encoded r d p hplan c plan s.spelled laws.within f is err err' line
 finding_here laws (to_validate r) (pd ∷ pp ∷ plan ∷ []) (finding.NotAPlan step why) x err err' line = failure_here pd pp plan step why err err' line x
 finding_here laws (to_make r) [] f x err err' line = nothing_made laws r f x err err' line
@@ -301,7 +304,7 @@ module _ (words : List Word) (files files' : FilesState) (out out' : SinkState) 
           let line : TakesWhole valid_line out out' = subst (λ (z : Output). TakesWhole z.told out out') e a.stands.1 in
           plan_here pd pp plan out out' are line
 
-  pub tree_done : ValuesAreDecodedAlike → ValuesHaveOneGroundBound → HasTree words files out out'
+  pub tree_done : ValuesAreDecodedAlikeAs → ValuesHaveOneGroundBound → HasTree words files out out'
   tree_done alike ground r d p plan asked read =
       go (achieved (to_decode r) asked (d ∷ p ∷ plan ∷ []) read) (gives_here (to_decode r) asked (d ∷ p ∷ plan ∷ []) read)
     where
@@ -364,7 +367,7 @@ module _ (laws : LawsUsed) (words : List Word) (files files' : FilesState) (out 
   promise_done err done = record {
     translate = λ e. headline_done words files files' out out' done laws.ground;
     bound = λ e. bound_done words files files' out out' done laws.ground;
-    decode = λ e. tree_done words files files' out out' done laws.decoded laws.ground;
+    decode = λ e. tree_done words files files' out out' done (alike_as laws.decoded laws.stack_decoded) laws.ground;
     encode = λ e. steps_done words files files' out out' done laws.decoded laws.encoded;
     validate = λ e. plan_done words files files' out out' done;
     make = λ e. made_done words files files' out out' done laws;

@@ -6,6 +6,7 @@ pub mod Faulty
 pub mod InputsRead
 pub mod OneProblem
 pub mod ByForm
+pub mod DecodedByForm
 pub mod Printed
 pub mod Puts
 pub mod Leavings

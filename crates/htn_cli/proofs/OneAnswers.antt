@@ -5,7 +5,6 @@ use Rattle.outside_io.specs.Files.{FilesState}
 use Rattle.command_words.specs.Names.{Word}
 use Rattle.command_words.specs.Words.{TranslationRequest, BoundRequest, DecodeRequest, EncodeRequest, ValidationRequest, MakeRequest, PruneRequest, Request, to_translate, to_bound, to_decode, to_encode, to_validate, to_make, to_prune}
 use Rattle.command_words.proofs.Requests.{one_request}
-use Rattle.decode_answers.specs.DecodeLaws.{EachIsDecodedOnce, ValuesAreDecodedAlike}
 use Rattle.encode_answers.specs.EncodeLaws.{EachIsEncodedOnce, EachIsSpelledOnce, ValuesAreEncodedAlike}
 use Rattle.ground_answers.specs.GroundLaws.{ValuesHaveOneGroundBound}
 use Rattle.htn_cli.specs.Answer.{Output, Answer, refuses, gives}
@@ -17,6 +16,7 @@ use Rattle.htn_cli.specs.Slots.{RefusesSlots}
 use Rattle.htn_cli.specs.declared.refusal.Limit.TheVariants as limit
 use Rattle.htn_cli.specs.declared.refusal.Refusal.{Refusal}
 use Rattle.htn_cli.specs.declared.refusal.Refusal.TheVariants as refused
+use Rattle.htn_cli.proofs.DecodedByForm.{EachIsDecodedOnceAs, ValuesAreDecodedAlikeAs}
 use Rattle.htn_cli.proofs.OneBound.{BoundComes, one_bounded}
 use Rattle.htn_cli.proofs.OneDecoding.{DecodeComes, one_decoded}
 use Rattle.htn_cli.proofs.OneEncoding.{EncodeComes, same_answer, one_encoded}
@@ -107,7 +107,7 @@ not_both : (request : Request) (texts : List (List ℕ)) (f : Refusal) (a : Answ
 not_both request texts f (refuses refusal) x y = fault_not_declined request texts f refusal x y
 not_both request texts f (gives output) x y = fault_not_given request texts f output x y.0
 
-module _ (once : EachIsDecodedOnce) (alike : ValuesAreDecodedAlike) (encoded_once : EachIsEncodedOnce) (encoded_alike : ValuesAreEncodedAlike) (spelled_once : EachIsSpelledOnce) (ground : ValuesHaveOneGroundBound) where
+module _ (once : EachIsDecodedOnceAs) (alike : ValuesAreDecodedAlikeAs) (encoded_once : EachIsEncodedOnce) (encoded_alike : ValuesAreEncodedAlike) (spelled_once : EachIsSpelledOnce) (ground : ValuesHaveOneGroundBound) where
   one_comes : (request : Request) (texts : List (List ℕ)) (a b : Answer) → Comes request texts a → Comes request texts b → TellTheSame a b
   one_comes (to_translate r) (d ∷ p ∷ []) a b is also = one_translated r d p ground a b (translation_comes r d p a is) (translation_comes r d p b also)
   one_comes (to_bound r) (d ∷ p ∷ []) a b is also = one_bounded ground r d p a b (bound_comes r d p a is) (bound_comes r d p b also)

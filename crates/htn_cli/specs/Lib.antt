@@ -9,6 +9,7 @@ pub mod Answer
 pub mod Slots
 pub mod Levels
 pub mod PrintedForms
+pub mod ShownForms
 pub mod Problem
 pub mod Texts
 pub mod Translation

@@ -10,14 +10,12 @@ use Rattle.plan_model.specs.plan_meaning.Bound.{IsBound}
 use Rattle.plan_text.specs.Plans.{IsPlanFault, IsPlanRead}
 use Rattle.text_forms.specs.Faults.{fault}
 use Rattle.text_forms.specs.sheets.Sheets.{capped}
-use Rattle.decoding.specs.PrintedSteps.{FailsAt}
-use Rattle.hplan_text.specs.ShownSolutions.{HaveText}
 use Rattle.text_values.specs.PddlValues as pddl
 use Rattle.hddl_reader.specs.declared.sections.Language.TheVariants as language
 use Rattle.bound_calc.specs.NoBound.{NamesCycle}
 use Rattle.command_words.specs.declared.form.PrintedForm.{PrintedForm}
 use Rattle.command_words.specs.declared.form.PrintedForm.TheVariants.{Stack}
-use Rattle.htn_cli.specs.PrintedForms.{NamesUnordered, unordered_word}
+use Rattle.htn_cli.specs.PrintedForms.{IsOrderedFor, NamesUnordered, unordered_word}
 use Rattle.command_words.specs.Names.{Word, AreApart}
 use Rattle.command_words.specs.Bounds.{IsNumeral, IsCount}
 use Rattle.command_words.specs.Words.{Request, translation_of, decode_of, encode_of, make_of, prune_of, number_of}
@@ -28,6 +26,7 @@ use Rattle.htn_cli.specs.Answers.{IsAnswer, RefusesFault, Refuses}
 use Rattle.htn_cli.specs.Faults.{IsFaultAt, IsNoLimit, limit_code}
 use Rattle.htn_cli.specs.Inputs.{AreGot, AreShort, EndTooLarge, FailsToRead}
 use Rattle.htn_cli.specs.Requests.{inputs_of, IsWithin}
+use Rattle.htn_cli.specs.ShownForms.{FailsAs, HaveTextAs}
 use Rattle.htn_cli.specs.Slots.{RefusesSlots}
 use Rattle.htn_cli.specs.Told.{Reads}
 use Rattle.htn_cli.specs.Texts.{AreTooLong}
@@ -181,29 +180,35 @@ abbrev pub StopsSteps : List GroundAction → Refusal → Type 0
 StopsSteps steps (refused.Limit (limit.Steps n)) = (n ≡ length steps) × (most_steps < n)
 StopsSteps steps _ = ⊥
 
+-- the text of the tree that steps spell with so many slots, in this form
+abbrev pub HaveShortText : PrintedForm → Compiled → ℕ → List GroundAction → List ℕ → Type 0
+HaveShortText form compiled slots steps text = HaveTextAs form compiled slots steps text × (length text ≤ longest_output)
+
 -- steps that spell no solution with so many slots, or whose text is too long; or memory ran out
-abbrev pub StopsTreeWith : Compiled → ℕ → List GroundAction → Refusal → Type 0
-StopsTreeWith compiled slots steps (refused.Finding (finding.SpellsNoSolution step why)) = FailsAt compiled slots steps step why
-StopsTreeWith compiled slots steps (refused.Limit (limit.Output n)) =
-    (text : List ℕ) × HaveText compiled slots steps text × (n ≡ capped (length text)) × (longest_output < n)
-StopsTreeWith compiled slots steps (refused.Failure failure.Memory) = Unit {0}
-StopsTreeWith compiled slots steps _ = ⊥
+abbrev pub StopsTreeWith : PrintedForm → Compiled → ℕ → List GroundAction → Refusal → Type 0
+StopsTreeWith form compiled slots steps (refused.Finding (finding.SpellsNoSolution step why)) = FailsAs form compiled slots steps step why
+StopsTreeWith form compiled slots steps (refused.Limit (limit.Output n)) =
+    (text : List ℕ) × HaveTextAs form compiled slots steps text × (n ≡ capped (length text)) × (longest_output < n)
+StopsTreeWith form compiled slots steps (refused.Failure failure.Memory) = Unit {0}
+StopsTreeWith form compiled slots steps _ = ⊥
 
 -- the number of slots is the given one, or else the bound at the level
-module _ (level : Level) (compiled : Compiled) (given : Option ℕ) where
+module _ (form : PrintedForm) (level : Level) (compiled : Compiled) (given : Option ℕ) where
   -- the text of the tree that steps spell
   abbrev pub IsTreeFor : List GroundAction → List ℕ → Type 0
   IsTreeFor steps text =
-      (slots : ℕ) × (length steps ≤ most_steps) × IsChosen most_slots level compiled given slots × HaveText compiled slots steps text
-      × (length text ≤ longest_output)
+      (slots : ℕ) × (length steps ≤ most_steps) × IsOrderedFor form compiled × IsChosen most_slots level compiled given slots
+      × HaveShortText form compiled slots steps text
 
   -- steps without this text
   abbrev pub StopsTree : List GroundAction → Refusal → Type 0
   StopsTree steps refusal =
       StopsSteps steps refusal
       ⊎ ((length steps ≤ most_steps)
+      × (StopsOrder form compiled refusal
+      ⊎ (IsOrderedFor form compiled
       × (StopsChosen most_slots level compiled given refusal
-      ⊎ ((slots : ℕ) × IsChosen most_slots level compiled given slots × StopsTreeWith compiled slots steps refusal)))
+      ⊎ ((slots : ℕ) × IsChosen most_slots level compiled given slots × StopsTreeWith form compiled slots steps refusal)))))
 
   -- and that of the steps of a text
   abbrev pub IsToldFor : (plan text : List ℕ) → Type 0

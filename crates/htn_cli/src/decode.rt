@@ -1,5 +1,5 @@
 ghost use Rattle.std.specs.Prelude.{◌≤◌, ◌∷◌, [], length, IfSome, IfOk, IfErr};
-ghost use Rattle.htn_base.specs.Limits.{longest_input, longest_output, most_slots};
+ghost use Rattle.htn_base.specs.Limits.{longest_input, longest_output, most_slots, most_steps};
 ghost use Rattle.outside_io.specs.Seen.{Seen};
 ghost use Rattle.command_words.specs.Bounds.{IsNumeral};
 ghost use Rattle.command_words.specs.Words.{decode_of, to_decode};
@@ -8,15 +8,18 @@ ghost use Rattle.htn_cli.specs.Answer.{gives, told_alone};
 ghost use Rattle.htn_cli.specs.Calling.{PassesInputs, StopsInputs};
 ghost use Rattle.htn_cli.specs.Decoding.{GivesTree};
 ghost use Rattle.htn_cli.specs.Made.{GivesOutput, output_of};
-ghost use Rattle.htn_cli.specs.Stops.{IsGiven, IsInRange, IsToldFor, IsTreeFor, StopsOutput, StopsTelling, StopsTexts, StopsTree};
+ghost use Rattle.htn_cli.specs.PrintedForms.{IsOrderedFor};
+ghost use Rattle.htn_cli.specs.ShownForms.{IsTreeTextAs};
+ghost use Rattle.htn_cli.specs.Stops.{HaveShortText, IsGiven, IsInRange, IsToldFor, IsTreeFor};
+ghost use Rattle.htn_cli.specs.Stops.{StopsOutput, StopsTelling, StopsTexts, StopsTree, StopsTreeWith};
 
 use crate::faults::{Place, refusal_for};
 use crate::output::Output;
-use crate::problem::compiled_from;
+use crate::problem::{compiled_from, ordered_for};
 use crate::reading::{read, read_two};
 use crate::refusal::{Failure, Finding, Limit, Refusal};
 use crate::slots::{given_slots, slots_for};
-use command_words::{Decoding, Level};
+use command_words::{Decoding, PrintedForm};
 use htn_base::limits::{LONGEST_OUTPUT, MOST_STEPS};
 use htn_base::{Memory, Text};
 use outside_io::Files;
@@ -24,7 +27,7 @@ use plan_model::{Compiled, Slots};
 use plan_text::Plan;
 use std::alloc::Global;
 use text_forms::sexpr_text::ReadError;
-use tree_texts::{TreeText, tree_text};
+use tree_texts::{TreeText, stack_text, tree_text};
 
 /// The number of the plan's file among the three that are read.
 const PLAN_FILE: u8 = 2;
@@ -101,13 +104,13 @@ fn told_of<'a>(
     requires soundly { IsSoundlyCompiled compiled.now }
     requires given { IfSome given IsInRange }
     requires plan_short { length plan.now ≤ longest_input }
-    ensures told { IfOk result (IsToldFor asked.now.level compiled.now given plan.now) }
-    ensures refused { IfErr result (StopsTelling asked.now.level compiled.now given
+    ensures told { IfOk result (IsToldFor asked.now.form asked.now.level compiled.now given plan.now) }
+    ensures refused { IfErr result (StopsTelling asked.now.form asked.now.level compiled.now given
         (asked.now.d.now ∷ asked.now.p.now ∷ asked.now.plan.now ∷ []) plan.now) }
 {
     match Plan::new(alloc, plan, PLAN_FILE) {
         Ok(plan) => {
-            let told = text_for(alloc, given, asked.level, compiled, &plan);
+            let told = text_for(alloc, asked, given, compiled, &plan);
             drop(plan);
             told
         }
@@ -122,29 +125,68 @@ fn told_of<'a>(
     }
 }
 
-/// The text of the tree that a plan spells with the given number of slots, or else as many as the bound at a level.
+/// The text of the tree that a plan spells with the given number of slots or cells, or else as many as the bound.
 fn text_for<'a>(
     alloc: Global,
+    asked: &Decoding<'a>,
     given: Option<u32>,
-    level: Level,
     compiled: &Compiled,
     plan: &Plan<'_>,
 ) -> Result<Text, Refusal<'a>>
     requires soundly { IsSoundlyCompiled compiled.now }
     requires given { IfSome given IsInRange }
-    ensures told { IfOk result (IsTreeFor level compiled.now given plan.now) }
-    ensures refused { IfErr result (StopsTree level compiled.now given plan.now) }
+    ensures told { IfOk result (IsTreeFor asked.now.form asked.now.level compiled.now given plan.now) }
+    ensures refused { IfErr result (StopsTree asked.now.form asked.now.level compiled.now given plan.now) }
 {
     if plan.len() > MOST_STEPS as usize {
         return Err(Refusal::Limit(Limit::Steps(plan.len())));
     }
-    let slots = slots_for(alloc, compiled, given, level, Slots::Any)?;
-    match tree_text(alloc, compiled, slots, plan, LONGEST_OUTPUT) {
+    ordered_for(alloc, compiled, asked.form)?;
+    let slots = slots_for(alloc, compiled, given, asked.level, Slots::Any)?;
+    text_with(alloc, asked.form, slots, compiled, plan)
+}
+
+/// The text of the tree that a plan spells in a form, with so many slots or cells.
+fn text_with<'a>(
+    alloc: Global,
+    form: PrintedForm,
+    slots: u32,
+    compiled: &Compiled,
+    plan: &Plan<'_>,
+) -> Result<Text, Refusal<'a>>
+    requires soundly { IsSoundlyCompiled compiled.now }
+    requires ordered { IsOrderedFor form compiled.now }
+    requires range { IsInRange slots }
+    requires few { length plan.now ≤ most_steps }
+    ensures told { IfOk result (HaveShortText form compiled.now slots plan.now) }
+    ensures refused { IfErr result (StopsTreeWith form compiled.now slots plan.now) }
+{
+    match tree_text_as(alloc, form, slots, compiled, plan) {
         Ok(TreeText::Whole(text)) => Ok(text),
         Ok(TreeText::TooLong(size)) => Err(Refusal::Limit(Limit::Output(size))),
         Ok(TreeText::Fails { step, why }) => {
             Err(Refusal::Finding(Finding::SpellsNoSolution(step, why)))
         }
         Err(Memory) => Err(Refusal::Failure(Failure::Memory)),
+    }
+}
+
+/// This text, or what the plan comes to in its place.
+fn tree_text_as(
+    alloc: Global,
+    form: PrintedForm,
+    slots: u32,
+    compiled: &Compiled,
+    plan: &Plan<'_>,
+) -> Result<TreeText, Memory>
+    requires soundly { IsSoundlyCompiled compiled.now }
+    requires ordered { IsOrderedFor form compiled.now }
+    requires range { IsInRange slots }
+    requires few { length plan.now ≤ most_steps }
+    ensures text { IfOk result (IsTreeTextAs form compiled.now slots plan.now longest_output) }
+{
+    match form {
+        PrintedForm::Slots => tree_text(alloc, compiled, slots, plan, LONGEST_OUTPUT),
+        PrintedForm::Stack => stack_text(alloc, compiled, slots, plan, LONGEST_OUTPUT),
     }
 }

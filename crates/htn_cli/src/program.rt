@@ -31,6 +31,7 @@ use decode_answers::values_are_decoded_alike;
 use encode_answers::{no_width_is_past_the_bound, values_are_encoded_alike};
 use ground_answers::values_have_one_ground_bound;
 use outside_io::{Files, Sink};
+use stack_answers::values_are_stack_decoded_alike;
 use std::alloc::Global;
 
 /// Does what the words ask, and tells on `err` why where it cannot.
@@ -101,6 +102,7 @@ pub fn run<F: Files, O: Sink, E: Sink>(
 {
     // laws, which do nothing
     values_are_decoded_alike();
+    values_are_stack_decoded_alike();
     values_are_encoded_alike();
     no_width_is_past_the_bound();
     values_have_one_ground_bound();
@@ -132,6 +134,7 @@ fn act<'a, F: Files, O: Sink>(
 {
     // laws, which do nothing
     values_are_decoded_alike();
+    values_are_stack_decoded_alike();
     values_are_encoded_alike();
     no_width_is_past_the_bound();
     values_have_one_ground_bound();

@@ -44,7 +44,8 @@ TellsFinding (to_translate request) (d ∷ p ∷ []) err err' =
     ((request.form ≡ Stack) × TellsUnordered request.checks d p err err') ⊎ TellsCycle request.level request.checks d p err err'
 TellsFinding (to_bound request) (d ∷ p ∷ []) err err' = TellsCycle request.level request.checks d p err err'
 TellsFinding (to_decode request) (d ∷ p ∷ plan ∷ []) err err' =
-    ((request.numeral ≡ None) × TellsCycle request.level request.checks d p err err') ⊎ TellsNoSolution request d p plan err err'
+    ((request.form ≡ Stack) × TellsUnordered request.checks d p err err')
+    ⊎ (((request.numeral ≡ None) × TellsCycle request.level request.checks d p err err') ⊎ TellsNoSolution request d p plan err err')
 TellsFinding (to_encode request) (d ∷ p ∷ hplan ∷ []) err err' = TellsNoSteps request d p hplan err err'
 TellsFinding (to_validate request) (pd ∷ pp ∷ plan ∷ []) err err' = TellsFailure pd pp plan err err'
 TellsFinding (to_make request) [] err err' = TellsNothingMade request err err'

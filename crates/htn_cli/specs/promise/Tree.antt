@@ -4,19 +4,19 @@
 use Rattle.std.specs.Prelude.{ℕ, ◌≡◌, List, [], ◌∷◌, None, IfSome}
 use Rattle.outside_io.specs.Files.{FilesState}
 use Rattle.outside_io.specs.Sink.{SinkState}
+use Rattle.plan_model.specs.declared.options.Slots.TheVariants.{Any}
 use Rattle.plan_model.specs.declared.options.Style.{Style}
 use Rattle.plan_model.specs.declared.steps.GroundAction.{GroundAction}
 use Rattle.plan_model.specs.declared.values.Pddl.{Pddl}
 use Rattle.plan_texts.specs.PlanText.{SpellsPlan}
 use Rattle.plan_texts.specs.PrintedTexts.{domain_text, problem_text}
-use Rattle.slot_encoding.specs.Printed.{IsPrinted}
-use Rattle.plan_proof.specs.Headline.{SpellsSolution, SpellsOne}
+use Rattle.plan_proof.specs.Headline.{SpellsSolutionBy, SpellsOneBy}
 use Rattle.plan_proof.specs.TextPlans.{IsPlanOf}
 use Rattle.decoding.specs.declared.causes.Why.{Why}
-use Rattle.decoding.specs.PrintedSteps.{FailsAt}
-use Rattle.hplan_text.specs.ShownSolutions.{HaveText}
 use Rattle.command_words.specs.Names.{Word}
 use Rattle.command_words.specs.Words.{DecodeRequest, number_of, AsksDecode}
+use Rattle.htn_cli.specs.PrintedForms.{SpellingAs, IsPrintedAs}
+use Rattle.htn_cli.specs.ShownForms.{FailsAs, HaveTextAs}
 use Rattle.htn_cli.specs.Told.{AreToldToRead}
 use Rattle.htn_cli.specs.Refusal.{line_of}
 use Rattle.htn_cli.specs.Sent.{TakesWhole, Told}
@@ -26,7 +26,7 @@ use Rattle.htn_cli.specs.promise.Problems.{ForEach}
 use Rattle.htn_cli.specs.Levels.{IsBoundAt}
 
 module _ (request : DecodeRequest) (d p plan : List ℕ) where
-  -- the steps that the third text spells, and the number of slots: the given one, or else the bound
+  -- the steps that the third text spells, and the number of slots or cells: the given one, or else the bound
   pub record AreDecoded (steps : List GroundAction) (slots : ℕ) : Type 0 where
     pub spelled : SpellsPlan plan steps
     pub given : IfSome request.numeral (λ numeral. slots ≡ number_of numeral)
@@ -40,11 +40,12 @@ module _ (request : DecodeRequest) (d p plan : List ℕ) where
     pub decoded : AreDecoded steps slots
     pub text : List ℕ
     pub told : TakesWhole text out out'
-    pub shown : ForEach d p request.checks (λ h c. HaveText c slots steps text)
-    pub only_one : ForEach d p request.checks (λ h c. SpellsOne c slots steps)
-    -- so they are a plan of each two texts that are printed with so many slots, of which a method takes any free ones
-    pub is_plan : ForEach d p request.checks (λ h c. (style : Style) (value : Pddl) → IsPrinted h request.checks c slots style value
-        → IsPlanOf (domain_text value) (problem_text value) steps)
+    pub shown : ForEach d p request.checks (λ h c. HaveTextAs request.form c slots steps text)
+    pub only_one : ForEach d p request.checks (λ h c. SpellsOneBy (SpellingAs request.form Any) c slots steps)
+    -- so they are a plan of each two texts that are printed in this form with so many slots, of which a method takes any free ones, or
+    -- with so many cells
+    pub is_plan : ForEach d p request.checks (λ h c. (style : Style) (value : Pddl)
+        → IsPrintedAs request.form Any h request.checks c slots style value → IsPlanOf (domain_text value) (problem_text value) steps)
 
   -- a list that was said to spell no solution: the line tells the step at which it fails, and its first cause
   pub record TellsNoSolution (err err' : SinkState) : Type 0 where
@@ -54,8 +55,8 @@ module _ (request : DecodeRequest) (d p plan : List ℕ) where
     pub step : ℕ
     pub why : Why
     pub told : Told (line_of (refused.Finding (finding.SpellsNoSolution step why))) err err'
-    pub fails : ForEach d p request.checks (λ h c. FailsAt c slots steps step why)
-    pub none : ForEach d p request.checks (λ h c. SpellsSolution c slots steps → ⊥)
+    pub fails : ForEach d p request.checks (λ h c. FailsAs request.form c slots steps step why)
+    pub none : ForEach d p request.checks (λ h c. SpellsSolutionBy (SpellingAs request.form Any) c slots steps → ⊥)
 
 module _ (words : List Word) (files : FilesState) (out out' : SinkState) where
   abbrev pub HasTree : Type 0
