@@ -29,8 +29,7 @@ use Rattle.htn_cli.specs.declared.refusal.Refusal.TheVariants as refused
 use Rattle.htn_cli.proofs.Endings.{no_words}
 use Rattle.htn_cli.specs.Making.{problem_of, translation_for}
 use Rattle.htn_cli.proofs.Headlines.{come, keep_here, keeps, bound_here, plan_here, finding_here}
-use Rattle.htn_cli.proofs.DecodedByForm.{alike_as}
-use Rattle.htn_cli.proofs.LawsUsed.{LawsUsed}
+use Rattle.htn_cli.proofs.LawsUsed.{LawsUsed, decoded_as, encoded_as}
 use Rattle.htn_cli.proofs.MadeTold.{keeps_made}
 use Rattle.htn_cli.proofs.PruneTold.{keeps_pruned}
 use Rattle.htn_cli.proofs.TreeTold.{tree_here}
@@ -164,10 +163,10 @@ keeps_by laws (to_bound r) (d ∷ p ∷ []) output (n, (c, source, bound), small
     (bound_here laws.ground r d p out out' n c source bound (subst (λ (z : Output). TakesWhole z.told out out') e told))
 keeps_by laws (to_decode r) (d ∷ p ∷ plan ∷ []) output (c, steps, slots, text, is, has, e) out out' told =
     subst (λ (z : Output). Keeps (to_decode r) (d ∷ p ∷ plan ∷ []) z.texts out out') (sym e)
-    (tree_here (alike_as laws.decoded laws.stack_decoded) laws.ground r d p plan c steps slots is text has out out' (subst (λ (z : Output). TakesWhole z.told out out') e told))
+    (tree_here (decoded_as laws) laws.ground r d p plan c steps slots is text has out out' (subst (λ (z : Output). TakesWhole z.told out out') e told))
 keeps_by laws (to_encode r) (d ∷ p ∷ hplan ∷ []) output (c, plan, text, s, (width, steps, is, t), e) out out' told =
     subst (λ (z : Output). Keeps (to_encode r) (d ∷ p ∷ hplan ∷ []) z.texts out out') (sym e)
-    (steps_here laws.encoded r d p hplan c plan s.spelled laws.decoded width steps is out out' (subst (λ z. TakesWhole z out out') t (subst (λ (z : Output). TakesWhole z.told out out') e told)))
+    (steps_here laws.encoded r d p hplan c plan s.spelled.spelled (encoded_as laws) (decoded_as laws) s.ordered width steps is out out' (subst (λ z. TakesWhole z out out') t (subst (λ (z : Output). TakesWhole z.told out out') e told)))
 keeps_by laws (to_validate r) (pd ∷ pp ∷ plan ∷ []) output (are, e) out out' told =
     subst (λ (z : Output). Keeps (to_validate r) (pd ∷ pp ∷ plan ∷ []) z.texts out out') (sym e)
     (plan_here pd pp plan out out' are (subst (λ (z : Output). TakesWhole z.told out out') e told))

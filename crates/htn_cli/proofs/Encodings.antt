@@ -6,17 +6,19 @@ use Rattle.text_values.specs.TextFaults.{IsLeastFault}
 use Rattle.plan_model.specs.declared.values.Compiled.{Compiled}
 use Rattle.hplan_text.specs.declared.values.HPlan.{HPlan}
 use Rattle.hplan_text.specs.Reading.{IsHPlanRead}
-use Rattle.step_texts.specs.StepTexts.{IsTextOf}
 use Rattle.command_words.specs.Names.{Word}
 use Rattle.command_words.specs.Words.{EncodeRequest, to_encode, number_of}
 use Rattle.htn_cli.specs.Answer.{told_alone}
 use Rattle.htn_cli.specs.EncodeStops.{IsFaultOfHPlan, StopsLines, StopsPlacing, StopsSteps, AreToldFor, StopsEncoding}
-use Rattle.htn_cli.specs.Encoding.{IsFound, count_of, slots_of, SpellHPlan, SpellFewLines, GivesSteps}
+use Rattle.htn_cli.specs.Encoding.{IsFound, count_of, slots_of, SpellHPlan, SpellFewLines, SpellFormLines, GivesSteps}
 use Rattle.htn_cli.specs.LeastFaults.{IsLeastWithHPlan, of_problem, of_third}
+use Rattle.htn_cli.specs.PrintedForms.{IsOrderedFor}
 use Rattle.htn_cli.specs.Problem.{SpellProblem}
 use Rattle.htn_cli.specs.Requests.{inputs_of}
-use Rattle.htn_cli.specs.Stops.{StopsFault, StopsTexts, IsGiven}
+use Rattle.htn_cli.specs.SpelledForms.{IsTextAs}
+use Rattle.htn_cli.specs.Stops.{StopsFault, StopsTexts, StopsOrder, IsGiven}
 use Rattle.htn_cli.specs.declared.refusal.Failure.TheVariants as failure
+use Rattle.htn_cli.specs.declared.refusal.Finding.TheVariants as finding
 use Rattle.htn_cli.specs.declared.refusal.Limit.TheVariants as limit
 use Rattle.htn_cli.specs.declared.refusal.Refusal.{Refusal}
 use Rattle.htn_cli.specs.declared.refusal.Refusal.TheVariants as refused
@@ -78,25 +80,35 @@ module _ (r : EncodeRequest) (d p hplan : List ℕ) where
         spell_few : SpellFewLines r d p hplan c plan
         spell_few = record { spelled = spell; few = few }
 
-        placing_stops : (refusal : Refusal) → StopsPlacing c g plan refusal → Stopped refusal
-        placing_stops (refused.Finding f) found = inr (c, plan, spell_few, subst (λ z. IsFound c plan z f) same found)
-        placing_stops (refused.Limit (limit.Slots n)) (none, wide, past) = inr (none_given r.numeral g is none, (c, plan, spell_few, wide, past))
-        placing_stops (refused.Limit (limit.Output n)) (text, has, e, past) = inr (c, plan, text, spell_few, subst (λ z. IsTextOf c plan z text) same has, e, past)
-        placing_stops (refused.Failure failure.Memory) stops = tt
-        placing_stops _ stops = absurd stops
+        order_stops : (refusal : Refusal) → StopsOrder r.form c refusal → Stopped refusal
+        order_stops (refused.Finding (finding.NotTotallyOrdered word)) (stack, named) = inr (inl (stack, (c, plan, spell_few, named)))
+        order_stops (refused.Failure failure.Memory) stops = tt
+        order_stops _ stops = absurd stops
 
-      steps_stop : (refusal : Refusal) → StopsSteps c g plan refusal → Stopped refusal
+        module _ (ordered : IsOrderedFor r.form c) where
+          spell_form : SpellFormLines r d p hplan c plan
+          spell_form = record { spelled = spell_few; ordered = ordered }
+
+          placing_stops : (refusal : Refusal) → StopsPlacing r.form c g plan refusal → Stopped refusal
+          placing_stops (refused.Finding f) found = inr (inr (c, plan, spell_form, subst (λ z. IsFound c plan z f) same found))
+          placing_stops (refused.Limit (limit.Slots n)) (none, wide, past) = inr (none_given r.numeral g is none, (c, plan, spell_form, wide, past))
+          placing_stops (refused.Limit (limit.Output n)) (text, has, e, past) = inr (c, plan, text, spell_form, subst (λ z. IsTextAs r.form c plan z text) same has, e, past)
+          placing_stops (refused.Failure failure.Memory) stops = tt
+          placing_stops _ stops = absurd stops
+
+      steps_stop : (refusal : Refusal) → StopsSteps r.form c g plan refusal → Stopped refusal
       steps_stop refusal (inl stops) = lines_stop refusal stops
-      steps_stop refusal (inr (few, stops)) = placing_stops few refusal stops
+      steps_stop refusal (inr (few, inl stops)) = order_stops few refusal stops
+      steps_stop refusal (inr (few, inr (ordered, stops))) = placing_stops few ordered refusal stops
 
     -- the third has a fault, or its plan gives no text
-    pub encoding_stops : (refusal : Refusal) → StopsEncoding c g (inputs_of (to_encode r)) hplan refusal → Stopped refusal
+    pub encoding_stops : (refusal : Refusal) → StopsEncoding r.form c g (inputs_of (to_encode r)) hplan refusal → Stopped refusal
     encoding_stops refusal (inl stops) = third_stops refusal stops
     encoding_stops refusal (inr (plan, read, stops)) = steps_stop plan read refusal stops
 
     -- what is told
-    pub gives_steps : (text : List ℕ) → AreToldFor c g hplan text → GivesSteps r d p hplan (told_alone text)
-    gives_steps text (plan, read, are) = (c, plan, text, spell_few plan read are.few, subst (λ z. IsTextOf c plan z text) same are.text_is, refl)
+    pub gives_steps : (text : List ℕ) → AreToldFor r.form c g hplan text → GivesSteps r d p hplan (told_alone text)
+    gives_steps text (plan, read, are) = (c, plan, text, spell_form plan read are.few are.ordered, subst (λ z. IsTextAs r.form c plan z text) same are.text_is, refl)
 
-    pub steps_fit : (text : List ℕ) → AreToldFor c g hplan text → length text ≤ longest_output
+    pub steps_fit : (text : List ℕ) → AreToldFor r.form c g hplan text → length text ≤ longest_output
     steps_fit text (plan, read, are) = are.fits

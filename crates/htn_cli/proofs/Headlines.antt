@@ -23,8 +23,6 @@ use Rattle.stack_proof.specs.OneTree.{OnePlanForEachTree}
 use Rattle.plan_proof.proofs.texts.SamePlans.{spelled-plans}
 use Rattle.command_words.specs.declared.form.PrintedForm.TheVariants.{Stack}
 use Rattle.htn_cli.specs.PrintedForms.{SpellingAs}
-use Rattle.decode_answers.specs.DecodeLaws.{ValuesAreDecodedAlike}
-use Rattle.encode_answers.specs.EncodeLaws.{ValuesAreEncodedAlike}
 use Rattle.made_transport.specs.Made.{made_domain}
 use Rattle.hddl_texts.specs.PrintedHddl.{hddl_domain_text, hddl_problem_text}
 use Rattle.ground_bound.proofs.Width.{solutions_are_within}
@@ -32,12 +30,12 @@ use Rattle.ground_answers.specs.GroundLaws.{ValuesHaveOneGroundBound}
 use Rattle.command_words.specs.declared.level.Level.{Level}
 use Rattle.command_words.specs.declared.level.Level.TheVariants.{Lifted, Ground}
 use Rattle.command_words.specs.Names.{Word}
-use Rattle.command_words.specs.Words.{TranslationRequest, BoundRequest, Request, to_translate, to_bound, to_decode, to_encode, to_validate, to_make, to_prune, Asks}
+use Rattle.command_words.specs.Words.{TranslationRequest, BoundRequest, EncodeRequest, Request, to_translate, to_bound, to_decode, to_encode, to_validate, to_make, to_prune, Asks}
 use Rattle.htn_cli.specs.Answer.{Output, Answer, refuses, gives}
 use Rattle.htn_cli.specs.Answers.{Refuses, Gives, RefusesSize, RefusesFault, IsAnswerFor, past_slots, too_large, faulty, declined, given}
 use Rattle.htn_cli.specs.Bounding.{GivesBound}
 use Rattle.htn_cli.specs.Decoding.{GivesTree}
-use Rattle.htn_cli.specs.Encoding.{GivesSteps}
+use Rattle.htn_cli.specs.Encoding.{FindsUnordered, GivesSteps}
 use Rattle.htn_cli.specs.Ending.{Achieves, IsDone, IsRefused}
 use Rattle.htn_cli.specs.Inputs.{AreGot, AreWhole}
 use Rattle.htn_cli.specs.Left.{Stand}
@@ -61,6 +59,7 @@ use Rattle.htn_cli.specs.promise.Tree.{TellsTree, HasTree}
 use Rattle.htn_cli.specs.promise.Steps.{TellsSteps, HasSteps}
 use Rattle.htn_cli.specs.promise.Making.{KeepsMade, HasMade}
 use Rattle.htn_cli.specs.promise.Pruning.{KeepsPruned, HasPruned}
+use Rattle.htn_cli.specs.promise.Cycle.{TellsUnordered}
 use Rattle.htn_cli.specs.promise.Finding.{TellsFailure, TellsFinding, HasFinding}
 use Rattle.htn_cli.specs.promise.Promise.{KeepsPromise}
 use Rattle.htn_cli.specs.declared.status.Status.{Status}
@@ -74,8 +73,8 @@ use Rattle.htn_cli.proofs.Endings.{asked_left, asked_done, never_done}
 use Rattle.htn_cli.proofs.Validations.{sound_apart}
 use Rattle.htn_cli.proofs.ByForm.{headline, at_bound, one_plan, one_plan_for_tree}
 use Rattle.htn_cli.proofs.EachProblem.{slots_given, slots_computed, bound_at_each, cycle_of_each, unordered_of_each, faithful_of_each}
-use Rattle.htn_cli.proofs.DecodedByForm.{ValuesAreDecodedAlikeAs, alike_as}
-use Rattle.htn_cli.proofs.LawsUsed.{LawsUsed}
+use Rattle.htn_cli.proofs.DecodedByForm.{ValuesAreDecodedAlikeAs}
+use Rattle.htn_cli.proofs.LawsUsed.{LawsUsed, decoded_as, encoded_as}
 use Rattle.htn_cli.proofs.MadeTold.{keeps_made, nothing_made}
 use Rattle.htn_cli.proofs.PruneTold.{keeps_pruned, unsolved_here}
 use Rattle.htn_cli.proofs.TreeTold.{tree_here, none_here}
@@ -190,6 +189,13 @@ module _ (pd pp plan : List ℕ) where
         );
   }
 
+-- A hierarchical plan of a problem that no stack is printed of.
+unordered_here : (r : EncodeRequest) (d p hplan : List ℕ) (f : Finding) → FindsUnordered r d p hplan f → (err err' : SinkState) → Told (line_of (refused.Finding f)) err err'
+    → (r.form ≡ Stack) × TellsUnordered r.checks d p err err'
+unordered_here r d p hplan (finding.NotTotallyOrdered word) (stack, (c, plan, s, named)) err err' line =
+    (stack, unordered_of_each d p r.checks c s.spelled.problem_is word named err err' line)
+unordered_here r d p hplan _ x err err' line = absurd x
+
 -- What was found of the texts of a request.
 pub finding_here : (laws : LawsUsed) (request : Request) (texts : List (List ℕ)) (f : Finding) → Refuses request texts (refused.Finding f) → (err err' : SinkState) → Told (line_of (refused.Finding f)) err err' → TellsFinding request texts err err'
 finding_here laws (to_translate r) (d ∷ p ∷ []) (finding.NotTotallyOrdered word) (stack, (c, source, named)) err err' line =
@@ -203,8 +209,10 @@ finding_here laws (to_decode r) (d ∷ p ∷ plan ∷ []) (finding.NotTotallyOrd
 finding_here laws (to_decode r) (d ∷ p ∷ plan ∷ []) (finding.NotTailRecursive words) (none, (c, steps, spelled, named)) err err' line =
     inr (inl (none, cycle_of_each d p r.checks c spelled.spelled.spelled.problem_is laws.ground r.level words named err err' line))
 finding_here laws (to_decode r) (d ∷ p ∷ plan ∷ []) (finding.SpellsNoSolution step why) (c, steps, slots, is, fails) err err' line =
-    inr (inr (none_here (alike_as laws.decoded laws.stack_decoded) laws.ground r d p plan c steps slots is step why fails err err' line))
-finding_here laws (to_encode r) (d ∷ p ∷ hplan ∷ []) f (c, plan, s, is) err err' line = no_steps_here laws.encoded r d p hplan c plan s.spelled laws.within f is err err' line
+    inr (inr (none_here (decoded_as laws) laws.ground r d p plan c steps slots is step why fails err err' line))
+finding_here laws (to_encode r) (d ∷ p ∷ hplan ∷ []) f (inl x) err err' line = inl (unordered_here r d p hplan f x err err' line)
+finding_here laws (to_encode r) (d ∷ p ∷ hplan ∷ []) f (inr (c, plan, s, is)) err err' line =
+    inr (no_steps_here laws.encoded r d p hplan c plan s.spelled.spelled laws.within f is err err' line)
 finding_here laws (to_validate r) (pd ∷ pp ∷ plan ∷ []) (finding.NotAPlan step why) x err err' line = failure_here pd pp plan step why err err' line x
 finding_here laws (to_make r) [] f x err err' line = nothing_made laws r f x err err' line
 finding_here laws (to_prune r) (d ∷ p ∷ []) finding.NoSolution (source, read, cannot) err err' line = unsolved_here d p source read cannot err err' line
@@ -313,14 +321,14 @@ module _ (words : List Word) (files files' : FilesState) (out out' : SinkState) 
           let line : TakesWhole text out out' = subst (λ (z : Output). TakesWhole z.told out out') e a.stands.1 in
           tree_here alike ground r d p plan c steps slots is text has out out' line
 
-  pub steps_done : ValuesAreDecodedAlike → ValuesAreEncodedAlike → HasSteps words files out out'
-  steps_done alike encoded r d p hplan asked read =
+  pub steps_done : LawsUsed → HasSteps words files out out'
+  steps_done laws r d p hplan asked read =
       go (achieved (to_encode r) asked (d ∷ p ∷ hplan ∷ []) read) (gives_here (to_encode r) asked (d ∷ p ∷ hplan ∷ []) read)
     where
       go : (a : Achieves files files' out out' (to_encode r)) → GivesSteps r d p hplan a.output → TellsSteps r d p hplan out out'
       go a (c, plan, text, s, (width, steps, is, t), e) =
           let told : TakesWhole text out out' = subst (λ (z : Output). TakesWhole z.told out out') e a.stands.1 in
-          steps_here encoded r d p hplan c plan s.spelled alike width steps is out out' (subst (λ z. TakesWhole z out out') t told)
+          steps_here laws.encoded r d p hplan c plan s.spelled.spelled (encoded_as laws) (decoded_as laws) s.ordered width steps is out out' (subst (λ z. TakesWhole z out out') t told)
 
   pub made_done : LawsUsed → HasMade words files' out out'
   made_done laws r od op asked domain_held problem_held = go (achieved (to_make r) asked [] tt) (gives_here (to_make r) asked [] tt)
@@ -367,8 +375,8 @@ module _ (laws : LawsUsed) (words : List Word) (files files' : FilesState) (out 
   promise_done err done = record {
     translate = λ e. headline_done words files files' out out' done laws.ground;
     bound = λ e. bound_done words files files' out out' done laws.ground;
-    decode = λ e. tree_done words files files' out out' done (alike_as laws.decoded laws.stack_decoded) laws.ground;
-    encode = λ e. steps_done words files files' out out' done laws.decoded laws.encoded;
+    decode = λ e. tree_done words files files' out out' done (decoded_as laws) laws.ground;
+    encode = λ e. steps_done words files files' out out' done laws;
     validate = λ e. plan_done words files files' out out' done;
     make = λ e. made_done words files files' out out' done laws;
     prune = λ e. pruned_done words files files' out out' done;

@@ -7,6 +7,7 @@ pub mod InputsRead
 pub mod OneProblem
 pub mod ByForm
 pub mod DecodedByForm
+pub mod EncodedByForm
 pub mod Printed
 pub mod Puts
 pub mod Leavings

@@ -17,6 +17,7 @@ use Rattle.htn_cli.specs.declared.refusal.Limit.TheVariants as limit
 use Rattle.htn_cli.specs.declared.refusal.Refusal.{Refusal}
 use Rattle.htn_cli.specs.declared.refusal.Refusal.TheVariants as refused
 use Rattle.htn_cli.proofs.DecodedByForm.{EachIsDecodedOnceAs, ValuesAreDecodedAlikeAs}
+use Rattle.htn_cli.proofs.EncodedByForm.{EachIsEncodedOnceAs, ValuesAreEncodedAlikeAs}
 use Rattle.htn_cli.proofs.OneBound.{BoundComes, one_bounded}
 use Rattle.htn_cli.proofs.OneDecoding.{DecodeComes, one_decoded}
 use Rattle.htn_cli.proofs.OneEncoding.{EncodeComes, same_answer, one_encoded}
@@ -107,12 +108,12 @@ not_both : (request : Request) (texts : List (List ℕ)) (f : Refusal) (a : Answ
 not_both request texts f (refuses refusal) x y = fault_not_declined request texts f refusal x y
 not_both request texts f (gives output) x y = fault_not_given request texts f output x y.0
 
-module _ (once : EachIsDecodedOnceAs) (alike : ValuesAreDecodedAlikeAs) (encoded_once : EachIsEncodedOnce) (encoded_alike : ValuesAreEncodedAlike) (spelled_once : EachIsSpelledOnce) (ground : ValuesHaveOneGroundBound) where
+module _ (once : EachIsDecodedOnceAs) (alike : ValuesAreDecodedAlikeAs) (once_encoded : EachIsEncodedOnceAs) (alike_encoded : ValuesAreEncodedAlikeAs) (encoded_once : EachIsEncodedOnce) (encoded_alike : ValuesAreEncodedAlike) (spelled_once : EachIsSpelledOnce) (ground : ValuesHaveOneGroundBound) where
   one_comes : (request : Request) (texts : List (List ℕ)) (a b : Answer) → Comes request texts a → Comes request texts b → TellTheSame a b
   one_comes (to_translate r) (d ∷ p ∷ []) a b is also = one_translated r d p ground a b (translation_comes r d p a is) (translation_comes r d p b also)
   one_comes (to_bound r) (d ∷ p ∷ []) a b is also = one_bounded ground r d p a b (bound_comes r d p a is) (bound_comes r d p b also)
   one_comes (to_decode r) (d ∷ p ∷ l ∷ []) a b is also = one_decoded once alike ground r d p l a b (decode_comes r d p l a is) (decode_comes r d p l b also)
-  one_comes (to_encode r) (d ∷ p ∷ l ∷ []) a b is also = one_encoded encoded_once encoded_alike r d p l a b (encode_comes r d p l a is) (encode_comes r d p l b also)
+  one_comes (to_encode r) (d ∷ p ∷ l ∷ []) a b is also = one_encoded once_encoded alike_encoded r d p l a b (encode_comes r d p l a is) (encode_comes r d p l b also)
   one_comes (to_validate r) (d ∷ p ∷ l ∷ []) a b is also = one_validated d p l a b (plan_comes r d p l a is) (plan_comes r d p l b also)
   one_comes (to_make r) [] a b is also = one_made encoded_once encoded_alike spelled_once ground r a b (make_comes r a is) (make_comes r b also)
   one_comes (to_prune r) (d ∷ p ∷ []) a b is also = one_pruned r d p a b (prune_comes r d p a is) (prune_comes r d p b also)

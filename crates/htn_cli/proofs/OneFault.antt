@@ -21,7 +21,7 @@ use Rattle.command_words.specs.Words.{TranslationRequest, DecodeRequest, EncodeR
 use Rattle.htn_cli.specs.Answer.{Output, refuses}
 use Rattle.htn_cli.specs.Answers.{IsLeastOf, Refuses, Gives, RefusesFault}
 use Rattle.htn_cli.specs.Decoding.{SpellSteps}
-use Rattle.htn_cli.specs.Encoding.{SpellHPlan}
+use Rattle.htn_cli.specs.Encoding.{SpellHPlan, FindsUnordered}
 use Rattle.htn_cli.specs.Faults.{IsFaultAt, limit_code, place_text, fault_text}
 use Rattle.htn_cli.specs.Making.{problem_of, translation_for, RefusesMake, GivesMake}
 use Rattle.htn_cli.specs.Pruning.{RefusesPrune}
@@ -167,6 +167,11 @@ module _ (r : MakeRequest) where
   made_faultless (refused.Limit (limit.Output n)) (inr (output, gives, e, long)) file code at f = gives_made_faultless output gives file code at f
   made_faultless _ x file code at f = absurd x
 
+-- a hierarchical plan of a problem that no stack is printed of
+unordered_faultless : (r : EncodeRequest) (d p hplan : List ℕ) (found : Finding) → FindsUnordered r d p hplan found → (file code at : ℕ) → IsLeastOf (to_encode r) (d ∷ p ∷ hplan ∷ []) file code at → ⊥
+unordered_faultless r d p hplan (finding.NotTotallyOrdered word) (stack, (c, plan, s, named)) file code at f = fault_or_hplan r d p hplan c plan s.spelled file code at f
+unordered_faultless r d p hplan _ x file code at f = absurd x
+
 -- texts that are declined have no fault
 declined_faultless : (request : Request) (texts : List (List ℕ)) (refusal : Refusal) → Refuses request texts refusal → (file code at : ℕ) → IsLeastOf request texts file code at → ⊥
 declined_faultless (to_translate r) (d ∷ p ∷ []) refusal x file code at f = translation_faultless r d p refusal x file code at f
@@ -174,16 +179,18 @@ declined_faultless (to_bound r) (d ∷ p ∷ []) (refused.Finding (finding.NotTa
 declined_faultless (to_bound r) (d ∷ p ∷ []) (refused.Limit limit.Ground) (c, s, past) file code at f = (have_one_fault language.Hddl d p).none s.read.faultless file code at f
 declined_faultless (to_bound r) (d ∷ p ∷ []) (refused.Limit limit.Bound) (n, (c, s, bound), past) file code at f = (have_one_fault language.Hddl d p).none s.read.faultless file code at f
 declined_faultless (to_decode r) (d ∷ p ∷ plan ∷ []) (refused.Limit (limit.Steps n)) (c, steps, s, e, many) file code at f = fault_or_steps r d p plan c steps s file code at f
-declined_faultless (to_decode r) (d ∷ p ∷ plan ∷ []) (refused.Finding (finding.NotTailRecursive words)) (none, (c, steps, s, named)) file code at f = fault_or_steps r d p plan c steps s.spelled file code at f
-declined_faultless (to_decode r) (d ∷ p ∷ plan ∷ []) (refused.Limit limit.Ground) (none, (c, steps, s, past)) file code at f = fault_or_steps r d p plan c steps s.spelled file code at f
-declined_faultless (to_decode r) (d ∷ p ∷ plan ∷ []) (refused.Limit limit.Bound) (none, (c, steps, n, s, bound, past)) file code at f = fault_or_steps r d p plan c steps s.spelled file code at f
-declined_faultless (to_decode r) (d ∷ p ∷ plan ∷ []) (refused.Limit (limit.Slots m)) (none, (c, steps, n, s, bound, past)) file code at f = fault_or_steps r d p plan c steps s.spelled file code at f
+declined_faultless (to_decode r) (d ∷ p ∷ plan ∷ []) (refused.Finding (finding.NotTotallyOrdered word)) (stack, (c, steps, s, named)) file code at f = fault_or_steps r d p plan c steps s.spelled file code at f
+declined_faultless (to_decode r) (d ∷ p ∷ plan ∷ []) (refused.Finding (finding.NotTailRecursive words)) (none, (c, steps, s, named)) file code at f = fault_or_steps r d p plan c steps s.spelled.spelled file code at f
+declined_faultless (to_decode r) (d ∷ p ∷ plan ∷ []) (refused.Limit limit.Ground) (none, (c, steps, s, past)) file code at f = fault_or_steps r d p plan c steps s.spelled.spelled file code at f
+declined_faultless (to_decode r) (d ∷ p ∷ plan ∷ []) (refused.Limit limit.Bound) (none, (c, steps, n, s, bound, past)) file code at f = fault_or_steps r d p plan c steps s.spelled.spelled file code at f
+declined_faultless (to_decode r) (d ∷ p ∷ plan ∷ []) (refused.Limit (limit.Slots m)) (none, (c, steps, n, s, bound, past)) file code at f = fault_or_steps r d p plan c steps s.spelled.spelled file code at f
 declined_faultless (to_decode r) (d ∷ p ∷ plan ∷ []) (refused.Finding (finding.SpellsNoSolution step why)) (c, steps, slots, source, fails) file code at f = fault_or_steps r d p plan c steps source.spelled.spelled file code at f
 declined_faultless (to_decode r) (d ∷ p ∷ plan ∷ []) (refused.Limit (limit.Output n)) (c, steps, slots, text, source, have, e, long) file code at f = fault_or_steps r d p plan c steps source.spelled.spelled file code at f
 declined_faultless (to_encode r) (d ∷ p ∷ hplan ∷ []) (refused.Limit (limit.Lines n)) (c, plan, s, e, many) file code at f = fault_or_hplan r d p hplan c plan s file code at f
-declined_faultless (to_encode r) (d ∷ p ∷ hplan ∷ []) (refused.Finding found) (c, plan, s, is) file code at f = fault_or_hplan r d p hplan c plan s.spelled file code at f
-declined_faultless (to_encode r) (d ∷ p ∷ hplan ∷ []) (refused.Limit (limit.Slots n)) (none, (c, plan, s, wide, many)) file code at f = fault_or_hplan r d p hplan c plan s.spelled file code at f
-declined_faultless (to_encode r) (d ∷ p ∷ hplan ∷ []) (refused.Limit (limit.Output n)) (c, plan, text, s, is, e, long) file code at f = fault_or_hplan r d p hplan c plan s.spelled file code at f
+declined_faultless (to_encode r) (d ∷ p ∷ hplan ∷ []) (refused.Finding found) (inl x) file code at f = unordered_faultless r d p hplan found x file code at f
+declined_faultless (to_encode r) (d ∷ p ∷ hplan ∷ []) (refused.Finding found) (inr (c, plan, s, is)) file code at f = fault_or_hplan r d p hplan c plan s.spelled.spelled file code at f
+declined_faultless (to_encode r) (d ∷ p ∷ hplan ∷ []) (refused.Limit (limit.Slots n)) (none, (c, plan, s, wide, many)) file code at f = fault_or_hplan r d p hplan c plan s.spelled.spelled file code at f
+declined_faultless (to_encode r) (d ∷ p ∷ hplan ∷ []) (refused.Limit (limit.Output n)) (c, plan, text, s, is, e, long) file code at f = fault_or_hplan r d p hplan c plan s.spelled.spelled file code at f
 declined_faultless (to_validate r) (d ∷ p ∷ plan ∷ []) (refused.Limit (limit.Steps n)) (c, steps, s, e, many) file code at f = fault_or_spelled d p plan c steps s file code at f
 declined_faultless (to_validate r) (d ∷ p ∷ plan ∷ []) (refused.Finding (finding.NotAPlan step why)) (c, steps, s, fails) file code at f = fault_or_spelled d p plan c steps s.spelled file code at f
 declined_faultless (to_make r) [] refusal x file code at f = made_faultless r refusal x file code at f
@@ -194,7 +201,7 @@ given_faultless : (request : Request) (texts : List (List ℕ)) (output : Output
 given_faultless (to_translate r) (d ∷ p ∷ []) output (texts, slots, written, e) file code at f = (have_one_fault language.Hddl d p).none written.source.problem_is.read.faultless file code at f
 given_faultless (to_bound r) (d ∷ p ∷ []) output (n, (c, s, bound), small, e) file code at f = (have_one_fault language.Hddl d p).none s.read.faultless file code at f
 given_faultless (to_decode r) (d ∷ p ∷ plan ∷ []) output (c, steps, slots, text, source, have, e) file code at f = fault_or_steps r d p plan c steps source.spelled.spelled file code at f
-given_faultless (to_encode r) (d ∷ p ∷ hplan ∷ []) output (c, plan, text, s, is, e) file code at f = fault_or_hplan r d p hplan c plan s.spelled file code at f
+given_faultless (to_encode r) (d ∷ p ∷ hplan ∷ []) output (c, plan, text, s, is, e) file code at f = fault_or_hplan r d p hplan c plan s.spelled.spelled file code at f
 given_faultless (to_validate r) (d ∷ p ∷ plan ∷ []) output ((c, steps, s, is), e) file code at f = fault_or_spelled d p plan c steps s.spelled file code at f
 given_faultless (to_make r) [] output x file code at f = gives_made_faultless r output x file code at f
 given_faultless (to_prune r) (d ∷ p ∷ []) output (value, spell, short, e) file code at f = (have_one_fault language.Hddl d p).none spell.read.faultless file code at f

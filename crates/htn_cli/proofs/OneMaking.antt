@@ -34,7 +34,7 @@ use Rattle.htn_cli.specs.declared.refusal.Limit.TheVariants as limit
 use Rattle.htn_cli.specs.declared.refusal.Refusal.{Refusal}
 use Rattle.htn_cli.specs.declared.refusal.Refusal.TheVariants as refused
 use Rattle.htn_cli.proofs.MadePlans.{made_is_sound}
-use Rattle.htn_cli.proofs.OneEncoding.{answer_by, same_answer, step_text_there}
+use Rattle.htn_cli.proofs.OneEncoding.{answer_by, same_answer, slots_text_there}
 use Rattle.htn_cli.proofs.OneSlots.{Follows, cycle, out, within, one_follows}
 use Rattle.htn_cli.proofs.OneTranslation.{Source, long, fully, same_prints, long_not_written, texts_of_both}
 
@@ -124,7 +124,7 @@ module _ (once : EachIsEncodedOnce) (alike : ValuesAreEncodedAlike) (spelled_onc
   one_text : (x y : Read) (most : ℕ) (s u : StepText) → IsStepText x.0 plan None most s → IsStepText y.0 plan None most u → s ≡ u
   one_text x y most s u is are =
       once y.1.value Leaf y.0 (is_of y) plan (made_is_sound (packages request)) None most s u
-      (step_text_there x.0 y.0 plan None (encoded_alike x y) most s is) are
+      (slots_text_there x.0 y.0 plan None (encoded_alike x y) most s is) are
 
   not_both : (x y : Read) (s : StepText) → IsStopped s → ((most : ℕ) → IsStepText x.0 plan None most s) → (width steps : ℕ) → IsCounted y.0 plan width steps → ⊥
   not_both x y s bare is width steps (list, spelled, e) =

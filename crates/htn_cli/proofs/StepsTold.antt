@@ -1,8 +1,6 @@
 -- Steps that were told: what is true of one value of the two texts is true of each.
 use Rattle.std.proofs.Common.{ℕ, ◌≡◌, ◌≤◌, ◌↔◌, List, [], ◌∷◌, Contains, Option, Some, refl, sym, ◌∙◌, subst, inl, inr, ⊎_elim, arith}
 use Rattle.outside_io.specs.Sink.{SinkState}
-use Rattle.plan_model.specs.declared.options.Slots.{Slots}
-use Rattle.plan_model.specs.declared.options.Slots.TheVariants.{Any, First}
 use Rattle.plan_model.specs.declared.steps.GroundAction.{GroundAction}
 use Rattle.plan_model.specs.declared.values.Compiled.{Compiled}
 use Rattle.plan_model.specs.declared.values.Hddl.{Hddl}
@@ -21,30 +19,32 @@ use Rattle.schedules.specs.latest.Shown.{plan_of}
 use Rattle.hplan_text.specs.declared.values.HPlan.{HPlan}
 use Rattle.hplan_text.specs.Printable.{IsSoundHPlan}
 use Rattle.hplan_text.specs.ShownLaws.{IsShownOnce}
-use Rattle.hplan_text.specs.ShownSolutions.{SpellShown}
 use Rattle.hplan_text.proofs.ShownOnce.{each_is_shown_once}
 use Rattle.hplan_text.proofs.SpelledSound.{read-sound}
 use Rattle.plan_encoder.specs.Calls.{lines_of, words, ShowsUnderSomeIds}
 use Rattle.plan_encoder.specs.Laws.{IsOf, SomeSolutionShows}
 use Rattle.plan_encoder.proofs.ShownLines.{shown_are_lines}
 use Rattle.placements.specs.Laws.{IsRefused}
-use Rattle.plan_proof.specs.Headline.{SpellsSolutionBy}
-use Rattle.first_slots.specs.LowestSpelling.{SpellingBy}
 use Rattle.placements.proofs.PlacedPlans.{placed_are_solutions}
 use Rattle.placements.proofs.RefusedPlans.{refused_are_shown_by_none}
-use Rattle.step_texts.specs.StepTexts.{IsSpelled, slots_for, steps_text}
-use Rattle.decode_answers.specs.DecodeLaws.{IsDecodable, ValuesAreDecodedAlike}
+use Rattle.step_texts.specs.StepTexts.{slots_for, steps_text}
+use Rattle.decode_answers.specs.DecodeLaws.{IsDecodable}
 use Rattle.encode_answers.specs.EncodeLaws.{AreEncodedAlike, NoWidthIsPastTheBound, ValuesAreEncodedAlike}
 use Rattle.command_words.specs.Words.{EncodeRequest}
 use Rattle.htn_cli.specs.Encoding.{IsFound, slots_of, SpellHPlan}
+use Rattle.htn_cli.specs.PrintedForms.{IsOrderedFor}
 use Rattle.htn_cli.specs.Problem.{SpellProblem}
 use Rattle.htn_cli.specs.Refusal.{line_of}
 use Rattle.htn_cli.specs.Sent.{TakesWhole, Told}
+use Rattle.htn_cli.specs.ShownForms.{SpellShownAs}
+use Rattle.htn_cli.specs.SpelledForms.{IsSpelledAs}
 use Rattle.htn_cli.specs.promise.Problems.{ForEach}
 use Rattle.htn_cli.specs.promise.Steps.{SaysWhy, TellsSteps, TellsNoSteps}
 use Rattle.htn_cli.specs.declared.refusal.Finding.{Finding}
 use Rattle.htn_cli.specs.declared.refusal.Finding.TheVariants as finding
 use Rattle.htn_cli.specs.declared.refusal.Refusal.TheVariants as refused
+use Rattle.htn_cli.proofs.DecodedByForm.{ValuesAreDecodedAlikeAs}
+use Rattle.htn_cli.proofs.EncodedByForm.{ValuesAreEncodedAlikeAs, AreSpelledSo, spelled_so}
 use Rattle.htn_cli.proofs.EachProblem.{graph, faithful_of_each}
 
 -- at first the root is pending, so a width is at least 1
@@ -133,39 +133,41 @@ module _ (encoded : ValuesAreEncodedAlike) (request : EncodeRequest) (d p hplan 
         says = says_why encoded d p request.checks c source plan (slots_of request) (read-sound hplan plan spelled.read) past f is;
       }
 
-  module _ (alike : ValuesAreDecodedAlike) (width : ℕ) (steps : List GroundAction) (is : IsSpelled c plan (slots_for (slots_of request) width) width steps) where
+  module _ (encoded_as : ValuesAreEncodedAlikeAs) (decoded_as : ValuesAreDecodedAlikeAs) (ordered : IsOrderedFor request.form c) (width : ℕ) (steps : List GroundAction)
+      (is : IsSpelledAs request.form c plan (slots_for (slots_of request) width) width steps) where
     abbrev slots : ℕ
     slots = slots_for (slots_of request) width
 
-    placed : IsSolution c is.tree is.order × ShowsUnderSomeIds c plan is.tree is.order
-    placed = placed_are_solutions c source.value request.checks (of encoded d p request.checks c source plan) plan is.tree is.order is.placed
+    so : AreSpelledSo request.form c plan slots width steps
+    so = spelled_so request.form c plan slots width steps is
+
+    placed : IsSolution c so.tree so.order × ShowsUnderSomeIds c plan so.tree so.order
+    placed = placed_are_solutions c source.value request.checks (of encoded d p request.checks c source plan) plan so.tree so.order so.placed
 
     some_slot : 1 ≤ slots
-    some_slot = let some = some_width (network c) is.tree width is.order is.width_is in let within = is.within in omega (arith, some, within)
+    some_slot = let some = some_width (network c) so.tree width so.order so.width_is in let within = so.within in omega (arith, some, within)
 
     decodable : IsDecodable source.value request.checks c slots
-    decodable = record { sound = source.read.sound; ordered = source.read.ordered; compiled = source.compiled_is; some_slot = some_slot; few_slots = is.few }
+    decodable = record { sound = source.read.sound; ordered = source.read.ordered; compiled = source.compiled_is; some_slot = some_slot; few_slots = so.few }
 
     -- the finished tree shows one plan, whose lines are the tree's
-    once : IsShownOnce c is.tree is.order
-    once = each_is_shown_once c is.tree is.order placed.0.finished
+    once : IsShownOnce c so.tree so.order
+    once = each_is_shown_once c so.tree so.order placed.0.finished
 
-    shown_here : SpellShown c slots steps once.plan
-    shown_here = record { tree = is.tree; order = is.order; slot = is.slot; spelled = (is.acts, is.lowest.spells, is.steps_are); solution = placed.0; shows = once.shows }
+    each_shown : (h : Hddl) (k : Compiled) → IsHddlOf d p h → IsCompiled h request.checks k → SpellShownAs request.form k slots steps once.plan
+    each_shown h k s compiled =
+        (decoded_as request.form d p source.value h request.checks c k slots steps source.read.spelled s decodable ordered compiled).shown once.plan
+        (so.shows placed.0 once.plan once.shows)
 
-    each_shown : (h : Hddl) (k : Compiled) → IsHddlOf d p h → IsCompiled h request.checks k → SpellShown k slots steps once.plan
-    each_shown h k s compiled = (alike d p source.value h request.checks c k slots steps source.read.spelled s decodable compiled).shown once.plan shown_here
-
-    lines_are : lines_of once.plan ≡ plan_of (network c) (words c) is.tree is.order
-    lines_are = (shown_are_lines c is.tree is.order once.plan placed.0.finished).0 once.shows
+    lines_are : lines_of once.plan ≡ plan_of (network c) (words c) so.tree so.order
+    lines_are = (shown_are_lines c so.tree so.order once.plan placed.0.finished).0 once.shows
 
     renumbered : IsRenumbering placed.1.0 (lines_of plan) (lines_of once.plan)
     renumbered = subst (λ z. IsRenumbering placed.1.0 (lines_of plan) z) (sym lines_are) placed.1.1
 
-    -- they are spelled with the lowest free slots, so with free ones by each rule
-    by_rule : (rule : Slots) → SpellsSolutionBy (SpellingBy rule) c slots steps
-    by_rule Any = (is.tree, is.order, is.slot, (is.acts, is.lowest.spells, is.steps_are), placed.0)
-    by_rule First = (is.tree, is.order, is.slot, record { spelling = (is.acts, is.lowest.spells, is.steps_are); lowest = is.lowest.lowest }, placed.0)
+    each_spelled : (h : Hddl) (k : Compiled) → IsHddlOf d p h → IsCompiled h request.checks k → IsSpelledAs request.form k plan slots width steps
+    each_spelled h k s compiled =
+        (encoded_as request.form d p source.value h request.checks c k plan source.read.spelled s (of encoded d p request.checks c source plan) compiled).spelled slots width steps is
 
     pub steps_here : (out out' : SinkState) → TakesWhole (steps_text width steps) out out' → TellsSteps request d p hplan out out'
     steps_here out out' told = record {
@@ -176,11 +178,12 @@ module _ (encoded : ValuesAreEncodedAlike) (request : EncodeRequest) (d p hplan 
       slots = slots;
       slots_are = refl;
       told = told;
-      latest = λ h k s compiled. (each encoded d p request.checks c source plan h k s compiled).spelled slots width steps is;
+      latest = each_spelled;
       shown = once.plan;
       shows = each_shown;
       new = placed.1.0;
       renumbered = renumbered;
       is_plan = λ h k s compiled rule style value printed.
-          ((faithful_of_each d p request.checks c source rule slots style value h k s printed source.value c source.read.spelled source.compiled_is).plans steps).1 (by_rule rule);
+          ((faithful_of_each d p request.checks c source request.form rule slots style value h k s printed source.value c source.read.spelled source.compiled_is).plans steps).1
+          (so.by_rule placed.0 rule);
     }

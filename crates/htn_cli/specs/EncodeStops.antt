@@ -7,10 +7,13 @@ use Rattle.plan_model.specs.declared.values.Compiled.{Compiled}
 use Rattle.hplan_text.specs.declared.values.HPlan.{HPlan}
 use Rattle.hplan_text.specs.HPlanFaults.{IsLeastFault}
 use Rattle.hplan_text.specs.Reading.{IsHPlanRead}
-use Rattle.step_texts.specs.StepTexts.{HasWidth, IsTextOf}
+use Rattle.step_texts.specs.StepTexts.{HasWidth}
+use Rattle.command_words.specs.declared.form.PrintedForm.{PrintedForm}
 use Rattle.command_words.specs.Names.{Word}
 use Rattle.htn_cli.specs.Encoding.{IsFound, count_of}
-use Rattle.htn_cli.specs.Stops.{StopsFault}
+use Rattle.htn_cli.specs.PrintedForms.{IsOrderedFor}
+use Rattle.htn_cli.specs.SpelledForms.{IsTextAs}
+use Rattle.htn_cli.specs.Stops.{StopsFault, StopsOrder}
 use Rattle.htn_cli.specs.declared.refusal.Failure.TheVariants as failure
 use Rattle.htn_cli.specs.declared.refusal.Limit.TheVariants as limit
 use Rattle.htn_cli.specs.declared.refusal.Refusal.{Refusal}
@@ -25,26 +28,29 @@ abbrev pub StopsLines : HPlan → Refusal → Type 0
 StopsLines plan (refused.Limit (limit.Lines n)) = (n ≡ count_of plan) × (most_lines < n)
 StopsLines plan _ = ⊥
 
--- with the number of slots that is given, if one is
-module _ (compiled : Compiled) (given : Option ℕ) where
+-- in a form, with the number of slots that is given, if one is
+module _ (form : PrintedForm) (compiled : Compiled) (given : Option ℕ) where
   -- a plan without steps, or whose text is too long; or memory ran out
   abbrev pub StopsPlacing : HPlan → Refusal → Type 0
   StopsPlacing plan (refused.Finding f) = IsFound compiled plan given f
   StopsPlacing plan (refused.Limit (limit.Slots n)) = (given ≡ None) × HasWidth compiled plan n × (most_slots < n)
   StopsPlacing plan (refused.Limit (limit.Output n)) =
-      (text : List ℕ) × IsTextOf compiled plan given text × (n ≡ capped (length text)) × (longest_output < n)
+      (text : List ℕ) × IsTextAs form compiled plan given text × (n ≡ capped (length text)) × (longest_output < n)
   StopsPlacing plan (refused.Failure failure.Memory) = Unit {0}
   StopsPlacing plan _ = ⊥
 
   -- the text of its steps
   pub record AreStepsFor (plan : HPlan) (text : List ℕ) : Type 0 where
     pub few : count_of plan ≤ most_lines
-    pub text_is : IsTextOf compiled plan given text
+    pub ordered : IsOrderedFor form compiled
+    pub text_is : IsTextAs form compiled plan given text
     pub fits : length text ≤ longest_output
 
   -- a plan without this text
   abbrev pub StopsSteps : HPlan → Refusal → Type 0
-  StopsSteps plan refusal = StopsLines plan refusal ⊎ ((count_of plan ≤ most_lines) × StopsPlacing plan refusal)
+  StopsSteps plan refusal =
+      StopsLines plan refusal
+      ⊎ ((count_of plan ≤ most_lines) × (StopsOrder form compiled refusal ⊎ (IsOrderedFor form compiled × StopsPlacing plan refusal)))
 
   -- and that of the plan of a text
   abbrev pub AreToldFor : (hplan text : List ℕ) → Type 0

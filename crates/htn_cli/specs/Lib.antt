@@ -10,6 +10,7 @@ pub mod Slots
 pub mod Levels
 pub mod PrintedForms
 pub mod ShownForms
+pub mod SpelledForms
 pub mod Problem
 pub mod Texts
 pub mod Translation

@@ -1,5 +1,5 @@
-ghost use Rattle.std.specs.Prelude.{◌≤◌, ◌∷◌, [], length, IfSome, IfOk, IfErr};
-ghost use Rattle.htn_base.specs.Limits.{longest_input, longest_output, most_slots};
+ghost use Rattle.std.specs.Prelude.{◌≤◌, ◌+◌, ◌∷◌, [], length, IfSome, IfOk, IfErr};
+ghost use Rattle.htn_base.specs.Limits.{longest_input, longest_output, most_lines, most_slots};
 ghost use Rattle.outside_io.specs.Seen.{Seen};
 ghost use Rattle.command_words.specs.Bounds.{IsNumeral};
 ghost use Rattle.command_words.specs.Words.{encode_of, to_encode};
@@ -10,22 +10,24 @@ ghost use Rattle.htn_cli.specs.Calling.{PassesInputs, StopsInputs};
 ghost use Rattle.htn_cli.specs.EncodeStops.{AreStepsFor, AreToldFor, StopsEncoding, StopsSteps};
 ghost use Rattle.htn_cli.specs.Encoding.{GivesSteps};
 ghost use Rattle.htn_cli.specs.Made.{GivesOutput, output_of};
+ghost use Rattle.htn_cli.specs.PrintedForms.{IsOrderedFor};
+ghost use Rattle.htn_cli.specs.SpelledForms.{IsStepTextAs};
 ghost use Rattle.htn_cli.specs.Stops.{IsGiven, StopsOutput, StopsTexts};
 
 use crate::faults::{Place, refusal_for};
 use crate::output::Output;
-use crate::problem::compiled_from;
+use crate::problem::{compiled_from, ordered_for};
 use crate::reading::{read, read_two};
 use crate::refusal::{Failure, Finding, Limit, Refusal};
 use crate::slots::given_slots;
-use command_words::Encoding;
+use command_words::{Encoding, PrintedForm};
 use hplan_text::HPlan;
 use htn_base::limits::{LONGEST_OUTPUT, MOST_LINES};
 use htn_base::{Memory, Text};
 use outside_io::Files;
 use plan_model::{Compiled, Slots};
 use std::alloc::Global;
-use step_texts::{StepText, step_text};
+use step_texts::{StepText, stack_text, step_text};
 use text_forms::sexpr_text::ReadError;
 
 /// The number of the plan's file among the three that are read.
@@ -103,13 +105,13 @@ fn told_of<'a>(
     requires soundly { IsSoundlyCompiled compiled.now }
     requires given { IfSome given (λ n. n ≤ most_slots) }
     requires hplan_short { length hplan.now ≤ longest_input }
-    ensures told { IfOk result (AreToldFor compiled.now given hplan.now) }
-    ensures refused { IfErr result (StopsEncoding compiled.now given
+    ensures told { IfOk result (AreToldFor asked.now.form compiled.now given hplan.now) }
+    ensures refused { IfErr result (StopsEncoding asked.now.form compiled.now given
         (asked.now.d.now ∷ asked.now.p.now ∷ asked.now.hplan.now ∷ []) hplan.now) }
 {
     match hplan_text::read(alloc, hplan, HPLAN_FILE) {
         Ok(plan) => {
-            let told = text_for(alloc, given, compiled, &plan);
+            let told = text_for(alloc, asked.form, given, compiled, &plan);
             drop(plan);
             told
         }
@@ -124,9 +126,10 @@ fn told_of<'a>(
     }
 }
 
-/// The text of a plan's steps with the given number of slots, or else as many as its latest schedule is wide.
+/// The text of a plan's steps in a form, with the given number of slots or cells, or else as many as its latest schedule is wide.
 fn text_for<'a>(
     alloc: Global,
+    form: PrintedForm,
     given: Option<u32>,
     compiled: &Compiled,
     plan: &HPlan,
@@ -135,14 +138,15 @@ fn text_for<'a>(
     requires printable { IsPrintableHPlan plan.now }
     requires sound { IsSoundHPlan plan.now }
     requires given { IfSome given (λ n. n ≤ most_slots) }
-    ensures told { IfOk result (AreStepsFor compiled.now given plan.now) }
-    ensures refused { IfErr result (StopsSteps compiled.now given plan.now) }
+    ensures told { IfOk result (AreStepsFor form compiled.now given plan.now) }
+    ensures refused { IfErr result (StopsSteps form compiled.now given plan.now) }
 {
     let lines = plan.primitives.len() as u128 + plan.nodes.len() as u128;
     if lines > MOST_LINES as u128 {
         return Err(Refusal::Limit(Limit::Lines(lines)));
     }
-    match step_text(alloc, compiled, plan, given, LONGEST_OUTPUT) {
+    ordered_for(alloc, compiled, form)?;
+    match step_text_as(alloc, form, given, compiled, plan) {
         Ok(StepText::Whole(text)) => Ok(text),
         Ok(StepText::TooLong(size)) => Err(Refusal::Limit(Limit::Output(size))),
         Ok(StepText::NoMatch(id)) => Err(Refusal::Finding(Finding::NoMatch(id))),
@@ -152,5 +156,27 @@ fn text_for<'a>(
         Ok(StepText::NeedsBound(width)) => Err(Refusal::Finding(Finding::NeedsBound(width))),
         Ok(StepText::TooWide(width)) => Err(Refusal::Limit(Limit::Slots(width as u128))),
         Err(Memory) => Err(Refusal::Failure(Failure::Memory)),
+    }
+}
+
+/// This text, or what the plan comes to in its place.
+fn step_text_as(
+    alloc: Global,
+    form: PrintedForm,
+    given: Option<u32>,
+    compiled: &Compiled,
+    plan: &HPlan,
+) -> Result<StepText, Memory>
+    requires soundly { IsSoundlyCompiled compiled.now }
+    requires ordered { IsOrderedFor form compiled.now }
+    requires printable { IsPrintableHPlan plan.now }
+    requires sound { IsSoundHPlan plan.now }
+    requires few { length plan.now.primitives + length plan.now.nodes ≤ most_lines }
+    requires given { IfSome given (λ n. n ≤ most_slots) }
+    ensures text { IfOk result (IsStepTextAs form compiled.now plan.now given longest_output) }
+{
+    match form {
+        PrintedForm::Slots => step_text(alloc, compiled, plan, given, LONGEST_OUTPUT),
+        PrintedForm::Stack => stack_text(alloc, compiled, plan, given, LONGEST_OUTPUT),
     }
 }

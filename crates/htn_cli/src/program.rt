@@ -32,6 +32,7 @@ use encode_answers::{no_width_is_past_the_bound, values_are_encoded_alike};
 use ground_answers::values_have_one_ground_bound;
 use outside_io::{Files, Sink};
 use stack_answers::values_are_stack_decoded_alike;
+use stack_encode_answers::values_are_stacked_alike;
 use std::alloc::Global;
 
 /// Does what the words ask, and tells on `err` why where it cannot.
@@ -104,6 +105,7 @@ pub fn run<F: Files, O: Sink, E: Sink>(
     values_are_decoded_alike();
     values_are_stack_decoded_alike();
     values_are_encoded_alike();
+    values_are_stacked_alike();
     no_width_is_past_the_bound();
     values_have_one_ground_bound();
     match act(alloc, words, files, out) {
@@ -136,6 +138,7 @@ fn act<'a, F: Files, O: Sink>(
     values_are_decoded_alike();
     values_are_stack_decoded_alike();
     values_are_encoded_alike();
+    values_are_stacked_alike();
     no_width_is_past_the_bound();
     values_have_one_ground_bound();
     match asked(words) {

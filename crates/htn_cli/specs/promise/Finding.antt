@@ -46,7 +46,8 @@ TellsFinding (to_bound request) (d ∷ p ∷ []) err err' = TellsCycle request.l
 TellsFinding (to_decode request) (d ∷ p ∷ plan ∷ []) err err' =
     ((request.form ≡ Stack) × TellsUnordered request.checks d p err err')
     ⊎ (((request.numeral ≡ None) × TellsCycle request.level request.checks d p err err') ⊎ TellsNoSolution request d p plan err err')
-TellsFinding (to_encode request) (d ∷ p ∷ hplan ∷ []) err err' = TellsNoSteps request d p hplan err err'
+TellsFinding (to_encode request) (d ∷ p ∷ hplan ∷ []) err err' =
+    ((request.form ≡ Stack) × TellsUnordered request.checks d p err err') ⊎ TellsNoSteps request d p hplan err err'
 TellsFinding (to_validate request) (pd ∷ pp ∷ plan ∷ []) err err' = TellsFailure pd pp plan err err'
 TellsFinding (to_make request) [] err err' = TellsNothingMade request err err'
 TellsFinding (to_prune request) (d ∷ p ∷ []) err err' = TellsUnsolved d p err err'

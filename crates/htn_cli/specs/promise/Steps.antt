@@ -11,18 +11,19 @@ use Rattle.plan_model.specs.declared.values.Compiled.{Compiled}
 use Rattle.plan_model.specs.declared.values.Pddl.{Pddl}
 use Rattle.plan_model.specs.plan_meaning.Bound.{IsBound}
 use Rattle.plan_texts.specs.PrintedTexts.{domain_text, problem_text}
-use Rattle.slot_encoding.specs.Printed.{IsPrintedBy}
 use Rattle.plan_proof.specs.TextPlans.{IsPlanOf}
 use Rattle.schedules.specs.latest.PlanLines.{IsRenumbering}
 use Rattle.hplan_text.specs.declared.values.HPlan.{HPlan}
 use Rattle.hplan_text.specs.Reading.{IsHPlanRead}
-use Rattle.hplan_text.specs.ShownSolutions.{SpellShown}
 use Rattle.plan_encoder.specs.Calls.{lines_of}
 use Rattle.plan_encoder.specs.Laws.{SomeSolutionShows}
-use Rattle.step_texts.specs.StepTexts.{IsSpelled, slots_for, steps_text}
+use Rattle.step_texts.specs.StepTexts.{slots_for, steps_text}
 use Rattle.command_words.specs.Names.{Word}
 use Rattle.command_words.specs.Words.{EncodeRequest, AsksEncode}
 use Rattle.htn_cli.specs.Encoding.{IsFound, slots_of}
+use Rattle.htn_cli.specs.PrintedForms.{IsPrintedAs}
+use Rattle.htn_cli.specs.ShownForms.{SpellShownAs}
+use Rattle.htn_cli.specs.SpelledForms.{IsSpelledAs}
 use Rattle.htn_cli.specs.Told.{AreToldToRead}
 use Rattle.htn_cli.specs.Refusal.{line_of}
 use Rattle.htn_cli.specs.Sent.{TakesWhole, Told}
@@ -39,8 +40,8 @@ pub record SaysWhy (given : Option ℕ) (plan : HPlan) (found : Finding) (c : Co
   pub enough : (bound slots width : ℕ) → IsBound c bound → given ≡ Some slots → bound ≤ slots → found ≡ finding.NeedsBound width → ⊥
 
 module _ (request : EncodeRequest) (d p hplan : List ℕ) where
-  -- steps that were told: they spell the latest schedule of the plan that the third text spells with the lowest of the slots, whose number
-  -- is the given one, or else the width that was told
+  -- steps that were told: they spell the latest schedule of the plan that the third text spells, with the lowest of the slots or as a stack;
+  -- the number of slots or cells is the given one, or else the width that was told
   pub record TellsSteps (out out' : SinkState) : Type 0 where
     pub plan : HPlan
     pub read : IsHPlanRead hplan plan
@@ -49,15 +50,16 @@ module _ (request : EncodeRequest) (d p hplan : List ℕ) where
     pub slots : ℕ
     pub slots_are : slots ≡ slots_for (slots_of request) width
     pub told : TakesWhole (steps_text width steps) out out'
-    pub latest : ForEach d p request.checks (λ h c. IsSpelled c plan slots width steps)
+    pub latest : ForEach d p request.checks (λ h c. IsSpelledAs request.form c plan slots width steps)
     -- with so many slots they are decoded to this plan, which is the one of the third text under other ids
     pub shown : HPlan
-    pub shows : ForEach d p request.checks (λ h c. SpellShown c slots steps shown)
+    pub shows : ForEach d p request.checks (λ h c. SpellShownAs request.form c slots steps shown)
     pub new : ℕ → ℕ
     pub renumbered : IsRenumbering new (lines_of plan) (lines_of shown)
-    -- and they are a plan of each two texts that are printed with so many slots, whichever free ones a method takes
+    -- and they are a plan of each two texts that are printed in this form with so many slots, whichever free ones a method takes, or with so
+    -- many cells
     pub is_plan : ForEach d p request.checks (λ h c. (rule : Slots) (style : Style) (value : Pddl)
-        → IsPrintedBy rule h request.checks c slots style value → IsPlanOf (domain_text value) (problem_text value) steps)
+        → IsPrintedAs request.form rule h request.checks c slots style value → IsPlanOf (domain_text value) (problem_text value) steps)
 
   -- a plan that was said to have no steps: the line tells the first sentence that says why
   pub record TellsNoSteps (err err' : SinkState) : Type 0 where

@@ -24,7 +24,7 @@ perform-requires g c = record { well = well_asked (words_of c.args.words.now) c.
 pub returns-in-Some-clause-passed : goal.returns-in-Some-clause-passed
 returns-in-Some-clause-passed g c =
     on_ok_too c.perform.result
-    (passes_done (words_of c.args.words.now) (g.F.Files.passed c.args.files.now) (g.F.Files.passed c.perform.new.files) (record { decoded = c.values_are_decoded_alike.ensures; encoded = c.values_are_encoded_alike.ensures; within = c.no_width_is_past_the_bound.ensures; ground = c.values_have_one_ground_bound.ensures }) (request_of c.in-Some.asked) c.in-Some.ensures.asked (g.O.Sink.state c.args.out.now) (g.O.Sink.state c.perform.new.out))
+    (passes_done (words_of c.args.words.now) (g.F.Files.passed c.args.files.now) (g.F.Files.passed c.perform.new.files) (record { decoded = c.values_are_decoded_alike.ensures; stack_decoded = c.values_are_stack_decoded_alike.ensures; encoded = c.values_are_encoded_alike.ensures; stacked = c.values_are_stacked_alike.ensures; within = c.no_width_is_past_the_bound.ensures; ground = c.values_have_one_ground_bound.ensures }) (request_of c.in-Some.asked) c.in-Some.ensures.asked (g.O.Sink.state c.args.out.now) (g.O.Sink.state c.perform.new.out))
     c.perform.ensures.passed
 
 pub returns-in-Some-clause-stopped : goal.returns-in-Some-clause-stopped

@@ -22,14 +22,14 @@ returns-in-Ok-clause-past_slots g c = λ n asks few. absurd (past_not_done _ _ _
 
 pub returns-in-Ok-clause-promise : goal.returns-in-Ok-clause-promise
 returns-in-Ok-clause-promise g c =
-    promise_done (record { decoded = c.values_are_decoded_alike.ensures; stack_decoded = c.values_are_stack_decoded_alike.ensures; encoded = c.values_are_encoded_alike.ensures; within = c.no_width_is_past_the_bound.ensures; ground = c.values_have_one_ground_bound.ensures })
+    promise_done (record { decoded = c.values_are_decoded_alike.ensures; stack_decoded = c.values_are_stack_decoded_alike.ensures; encoded = c.values_are_encoded_alike.ensures; stacked = c.values_are_stacked_alike.ensures; within = c.no_width_is_past_the_bound.ensures; ground = c.values_have_one_ground_bound.ensures })
     _ _ _ _ _ _ c.in-Ok.ensures.done
 
 -- it was refused
 
 pub returns-in-Err-clause-promise : goal.returns-in-Err-clause-promise
 returns-in-Err-clause-promise g c =
-    promise_refused (record { decoded = c.values_are_decoded_alike.ensures; stack_decoded = c.values_are_stack_decoded_alike.ensures; encoded = c.values_are_encoded_alike.ensures; within = c.no_width_is_past_the_bound.ensures; ground = c.values_have_one_ground_bound.ensures })
+    promise_refused (record { decoded = c.values_are_decoded_alike.ensures; stack_decoded = c.values_are_stack_decoded_alike.ensures; encoded = c.values_are_encoded_alike.ensures; stacked = c.values_are_stacked_alike.ensures; within = c.no_width_is_past_the_bound.ensures; ground = c.values_have_one_ground_bound.ensures })
     (words_of c.args.words.now) (g.F.Files.state c.args.files.now) (g.F.Files.state c.act.new.files) (g.O.Sink.state c.args.out.now) (g.O.Sink.state c.act.new.out) _ _ _
     c.in-Err.refusal c.status-status.ensures c.in-Err.ensures.refused c.tell.ensures.told
 
@@ -96,7 +96,7 @@ returns-in-Err-clause-inputs_stay g c =
 pub returns-in-Err-clause-found : goal.returns-in-Err-clause-found
 returns-in-Err-clause-found g c =
     λ e. passes_finding (words_of c.args.words.now) (g.F.Files.passed c.args.files.now) (g.F.Files.passed c.act.new.files)
-    (record { decoded = c.values_are_decoded_alike.ensures; stack_decoded = c.values_are_stack_decoded_alike.ensures; encoded = c.values_are_encoded_alike.ensures; within = c.no_width_is_past_the_bound.ensures; ground = c.values_have_one_ground_bound.ensures }) c.in-Err.refusal c.in-Err.ensures.stopped (sym c.status-status.ensures ∙ e) _ _ c.tell.ensures.told
+    (record { decoded = c.values_are_decoded_alike.ensures; stack_decoded = c.values_are_stack_decoded_alike.ensures; encoded = c.values_are_encoded_alike.ensures; stacked = c.values_are_stacked_alike.ensures; within = c.no_width_is_past_the_bound.ensures; ground = c.values_have_one_ground_bound.ensures }) c.in-Err.refusal c.in-Err.ensures.stopped (sym c.status-status.ensures ∙ e) _ _ c.tell.ensures.told
 
 pub returns-in-Err-clause-passed : goal.returns-in-Err-clause-passed
 returns-in-Err-clause-passed g c = λ e. absurd (never_done c.in-Err.refusal (sym c.status-status.ensures ∙ e))
