@@ -35,6 +35,7 @@ use Rattle.htn_cli.specs.Validation.{Spell}
 use Rattle.htn_cli.specs.declared.faults.Counted.{Counted}
 use Rattle.htn_cli.specs.declared.faults.Counted.TheVariants.{Depth, Subtasks, Types}
 use Rattle.htn_cli.specs.declared.faults.Place.{Place}
+use Rattle.htn_cli.specs.declared.refusal.Finding.{Finding}
 use Rattle.htn_cli.specs.declared.refusal.Finding.TheVariants as finding
 use Rattle.htn_cli.specs.declared.refusal.Limit.TheVariants as limit
 use Rattle.htn_cli.specs.declared.refusal.Refusal.{Refusal}
@@ -136,6 +137,7 @@ no_fault : (d p : List ℕ) (checks : Checks) (c : Compiled) → SpellProblem d 
 no_fault d p checks c s file code at f = (have_one_fault language.Hddl d p).none s.read.faultless file code at f
 
 translation_faultless : (r : TranslationRequest) (d p : List ℕ) (refusal : Refusal) → RefusesTranslation r d p refusal → (file code at : ℕ) → IsLeastFault language.Hddl d p file code at → ⊥
+translation_faultless r d p (refused.Finding (finding.NotTotallyOrdered word)) (stack, (c, s, named)) file code at f = no_fault d p r.checks c s file code at f
 translation_faultless r d p (refused.Finding (finding.NotTailRecursive words)) (none, (c, s, named)) file code at f = no_fault d p r.checks c s file code at f
 translation_faultless r d p (refused.Limit limit.Ground) (none, (c, s, past)) file code at f = no_fault d p r.checks c s file code at f
 translation_faultless r d p (refused.Limit limit.Bound) (none, (n, (c, s, bound), past)) file code at f = no_fault d p r.checks c s file code at f
