@@ -7,7 +7,7 @@ use Rattle.plan_model.specs.declared.values.Compiled.{Compiled}
 use Rattle.plan_model.specs.task_networks.Net.{count}
 use Rattle.plan_model.specs.task_networks.Tree.{Tree, Address}
 use Rattle.plan_model.specs.task_networks.Spelling.{Act, run, apply, numbers}
-use Rattle.plan_model.specs.plan_meaning.Network.{Work, network, objects_of}
+use Rattle.plan_model.specs.plan_meaning.Network.{network, objects_of}
 use Rattle.plan_model.specs.plan_meaning.Solution.{top_work}
 use Rattle.plan_model.specs.plan_meaning.SpelledPlan.{object_word, work_name, method_name}
 use Rattle.stack_machine.specs.StackMachine.{SpellsCells}

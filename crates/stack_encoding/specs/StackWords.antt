@@ -1,6 +1,6 @@
 -- All words of the printed problem of a stack: a name table that has them lacks none.
 -- Source: this project's encoding.
-use Rattle.std.specs.Prelude.{ℕ, zero, suc, ◌-◌, List, [], ◌∷◌, ◌++◌, map, length, codes, Contains}
+use Rattle.std.specs.Prelude.{ℕ, suc, List, [], ◌∷◌, ◌++◌, map, codes, Contains}
 use Rattle.htn_base.specs.Escapes.{slot_word}
 use Rattle.text_forms.specs.Words.{Word}
 use Rattle.plan_model.specs.declared.types.Object.{Object}

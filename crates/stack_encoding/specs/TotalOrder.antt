@@ -1,6 +1,6 @@
 -- Totally ordered problems: each method's children come one after another.
 -- Source: Höller et al., "HDDL", AAAI 2020, totally ordered task networks; that all methods are, the top method too, is this project's wording.
-use Rattle.std.specs.Prelude.{ℕ, ◌≡◌, ◌<◌, List, length, slice_get, Contains, Some}
+use Rattle.std.specs.Prelude.{ℕ, ◌≡◌, ◌<◌, length, slice_get, Contains, Some}
 use Rattle.plan_model.specs.declared.schemas.MethodPlan.{MethodPlan}
 use Rattle.plan_model.specs.declared.values.Compiled.{Compiled}
 use Rattle.plan_model.specs.Pairs.{Pairs}
