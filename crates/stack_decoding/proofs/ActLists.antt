@@ -1,5 +1,5 @@
 -- A front that is spelled with its cells is spelled by acts whose steps these are.
-use Rattle.std.proofs.Common.{ℕ, ◌≡◌, List, [], ◌∷◌, ◌++◌, map, refl, ap, sym, subst, ◌∙◌, Contains}
+use Rattle.std.proofs.Common.{ℕ, ◌≡◌, List, [], ◌∷◌, ◌++◌, map, refl, ap, sym, subst, ◌∙◌}
 use Rattle.plan_model.specs.declared.steps.GroundAction.{GroundAction}
 use Rattle.plan_model.specs.declared.values.Compiled.{Compiled}
 use Rattle.plan_model.specs.task_networks.Net.{Net}
@@ -10,13 +10,11 @@ use Rattle.plan_model.specs.plan_meaning.Truth.{State}
 use Rattle.plan_model.specs.plan_meaning.Network.{network}
 use Rattle.plan_model.specs.plan_meaning.Solution.{top_work, Allows, next}
 use Rattle.plan_model.specs.plan_meaning.SpelledPlan.{step_of}
-use Rattle.slot_machine.specs.OtherMachine.{TakesAll}
 use Rattle.stack_machine.specs.Stack.{IsTotal}
 use Rattle.stack_machine.specs.StackMachine.{SpellsCells}
 use Rattle.stack_machine.proofs.StackPicks.{Pick, cells_iff_picked}
 use Rattle.stack_encoding.specs.StackSpelling.{stack_step}
-use Rattle.decoding.specs.FailingAct.{slot_in, IsReading, AreRead}
-use Rattle.decoding.specs.PrintedSteps.{IsReadAs}
+use Rattle.decoding.specs.FailingAct.{IsReading, AreRead}
 use Rattle.decoding.proofs.ReadSteps.{Read as SlotRead, spellings_are_read}
 use Rattle.decoding.proofs.SoundSteps.{words_apart_are_sound}
 use Rattle.stack_decoding.specs.StackSteps.{HasCells, HasArguments, IsStepOf}

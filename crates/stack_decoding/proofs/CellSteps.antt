@@ -1,14 +1,12 @@
 -- A step is that of one act at most, and what it is to be an act's step.
-use Rattle.std.proofs.Common.{ℕ, zero, suc, ◌≡◌, ◌+◌, ◌-◌, ◌≤◌, ◌<◌, ◌^◌, inl, inr, List, [], ◌∷◌, ◌++◌, map, length, Some, refl, ap, sym, subst, ◌∙◌, Contains, arith}
+use Rattle.std.proofs.Common.{ℕ, zero, suc, ◌≡◌, ◌+◌, ◌-◌, ◌≤◌, ◌<◌, ◌^◌, inl, inr, List, [], ◌∷◌, ◌++◌, map, length, refl, ap, sym, subst, ◌∙◌, Contains, arith}
 use Rattle.std.proofs.Math.Decide.{ℕ_discrete}
 use Rattle.std.proofs.lemmas.List.{length-map}
 use Rattle.htn_base.specs.Escapes.{slot_word}
 use Rattle.htn_base.proofs.EscapeLemmas.{names_apart}
-use Rattle.plan_model.specs.declared.terms.Param.{Param}
 use Rattle.plan_model.specs.declared.steps.GroundAction.{GroundAction}
 use Rattle.plan_model.specs.declared.values.Compiled.{Compiled}
 use Rattle.plan_model.specs.task_networks.Order.{Precedes}
-use Rattle.plan_model.specs.task_networks.Lawful.{IsLawful}
 use Rattle.plan_model.specs.task_networks.Net.{count}
 use Rattle.plan_model.specs.task_networks.Spelling.{Act, run, apply, numbers, others}
 use Rattle.plan_model.specs.plan_meaning.Network.{action, check, task, GroundMethod, network}
@@ -21,7 +19,7 @@ use Rattle.stack_machine.specs.Stack.{IsTotal, AreCellsFrom, behind}
 use Rattle.stack_machine.proofs.Heights.{AreHeights, line_of, is_line, high, heights, high_of, heir_lowest}
 use Rattle.stack_encoding.specs.StackSpelling.{cells_of, stack_step}
 use Rattle.decoding.specs.FailingAct.{slot_in, IsFormed}
-use Rattle.decoding.specs.PrintedSteps.{HasParams, own_objects, IsNamed, IsReadAs}
+use Rattle.decoding.specs.PrintedSteps.{own_objects, IsNamed}
 use Rattle.stack_decoding.specs.StackSteps.{children_of, named_cells, HasCells, AreUpTo, HasArguments, IsStepOf}
 use Rattle.stack_decoding.specs.StackStepLaws.{HasStackWords, StepsAreOfOneAct, EachStepIsOfOneAct}
 use Rattle.stack_decoding.proofs.StepNames.{as_many, objects_once, IsSameKind, same_kind}

@@ -1,5 +1,5 @@
 -- A list of steps spells a solution with its cells, or it fails at one step for one first cause.
-use Rattle.std.proofs.Common.{ℕ, suc, ◌≡◌, ◌≤◌, ◌<◌, ◌+◌, ◌⊎◌, inl, inr, List, [], ◌∷◌, ◌++◌, length, map, refl, ap, sym, subst, ◌∙◌, arith}
+use Rattle.std.proofs.Common.{ℕ, suc, ◌≡◌, ◌≤◌, ◌+◌, ◌⊎◌, inl, inr, List, ◌∷◌, ◌++◌, length, map, ap, sym, subst, ◌∙◌, arith}
 use Rattle.std.proofs.Math.Decide.{ℕ_discrete}
 use Rattle.std.proofs.lemmas.List.{length-append}
 use Rattle.plan_model.specs.declared.steps.GroundAction.{GroundAction}
@@ -16,7 +16,6 @@ use Rattle.slot_machine.specs.Reached.{SameSlots}
 use Rattle.slot_machine.proofs.Unique.{one_front}
 use Rattle.stack_machine.specs.Stack.{IsTotal}
 use Rattle.stack_machine.specs.StackMachine.{SpellsCells}
-use Rattle.stack_encoding.specs.StackSpelling.{stack_step}
 use Rattle.decoding.specs.declared.causes.Why.{Why}
 use Rattle.decoding.specs.declared.causes.Why.TheVariants.{UnknownAction, Arguments, SlotHolds, Waiting, SlotTaken, Constraint, Precondition, Unfinished, GoalFalse}
 use Rattle.decoding.specs.FailingAct as General

@@ -1,5 +1,5 @@
 -- Where words are apart a step's name tells what it is of, and its objects are those of its words.
-use Rattle.std.proofs.Common.{ℕ, zero, suc, ◌≡◌, ◌++◌, true, false, IsTrue, List, [], ◌∷◌, map, length, Option, Some, None, slice_get, slice_index_or, refl, ap, sym, subst, ◌∙◌}
+use Rattle.std.proofs.Common.{ℕ, zero, suc, ◌≡◌, ◌++◌, true, false, IsTrue, List, [], ◌∷◌, map, length, Option, Some, None, slice_get, slice_index_or, refl, ap, sym, ◌∙◌}
 use Rattle.std.specs.Prelude.{codes, nat_eq}
 use Rattle.std.specs.List.{starts_with}
 use Rattle.std.specs.Option.{option_map_or}

@@ -1,11 +1,11 @@
 -- What is at the tip of a front is what waits for none; a method there has its new cells above it, which hold nothing.
-use Rattle.std.proofs.Common.{ℕ, ◌≡◌, ◌+◌, ◌≤◌, ◌<◌, inl, inr, List, map, Some, ap, sym, subst, ◌∙◌, Contains, arith}
+use Rattle.std.proofs.Common.{ℕ, ◌≡◌, ◌+◌, ◌<◌, inl, inr, List, Some, ap, sym, subst, ◌∙◌, Contains, arith}
 use Rattle.std.proofs.Math.Decide.{ℕ_discrete}
 use Rattle.htn_base.specs.Different.{AreDifferent}
 use Rattle.plan_model.specs.declared.values.Compiled.{Compiled}
 use Rattle.plan_model.specs.task_networks.Lawful.{IsLawful}
 use Rattle.plan_model.specs.task_networks.Net.{count}
-use Rattle.plan_model.specs.task_networks.Tree.{Tree, Address, IsOpen}
+use Rattle.plan_model.specs.task_networks.Tree.{Tree, Address}
 use Rattle.plan_model.specs.task_networks.Spelling.{Act, run, apply, others}
 use Rattle.plan_model.specs.plan_meaning.Network.{Work, GroundMethod, network}
 use Rattle.plan_model.specs.plan_meaning.Solution.{top_work}

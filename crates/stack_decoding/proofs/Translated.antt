@@ -1,5 +1,5 @@
 -- What fails of a step with cells is what fails of it with slots, where a task that waits is none that the tip holds.
-use Rattle.std.proofs.Common.{ℕ, ◌≡◌, ◌<◌, ◌⊎◌, inl, inr, List, sym, subst, ◌∙◌, arith}
+use Rattle.std.proofs.Common.{ℕ, ◌<◌, ◌⊎◌, inl, inr, List, subst, arith}
 use Rattle.plan_model.specs.declared.steps.GroundAction.{GroundAction}
 use Rattle.plan_model.specs.declared.values.Compiled.{Compiled}
 use Rattle.plan_model.specs.task_networks.Lawful.{IsLawful}
@@ -8,7 +8,6 @@ use Rattle.plan_model.specs.task_networks.Spelling.{Act, run, apply}
 use Rattle.plan_model.specs.plan_meaning.Truth.{State}
 use Rattle.plan_model.specs.plan_meaning.Network.{network}
 use Rattle.plan_model.specs.plan_meaning.Solution.{top_work, Allows, next, initial, IsGoal}
-use Rattle.slot_machine.specs.Reached.{HasLeaf}
 use Rattle.stack_machine.specs.Stack.{IsTotal}
 use Rattle.stack_machine.specs.StackMachine.{SpellsCells}
 use Rattle.decoding.specs.declared.causes.Why.{Why}

@@ -1,6 +1,6 @@
 -- Steps of a stack by their printed words; where a list of them fails to spell a solution, and why.
 -- Source: this project's. A stack of tasks, as in LL parsing, whose tip is the only task that can be taken.
-use Rattle.std.specs.Prelude.{ℕ, ◌≡◌, ◌≤◌, ◌<◌, ◌+◌, ◌⊎◌, List, [], ◌∷◌, ◌++◌, length, map, Contains}
+use Rattle.std.specs.Prelude.{ℕ, ◌≡◌, ◌≤◌, ◌<◌, ◌+◌, ◌⊎◌, List, ◌∷◌, ◌++◌, length, map, Contains}
 use Rattle.htn_base.specs.Escapes.{slot_word}
 use Rattle.plan_model.specs.declared.terms.Param.{Param}
 use Rattle.plan_model.specs.declared.steps.GroundAction.{GroundAction}
