@@ -1,16 +1,12 @@
 -- A solution that is spelled with its cells shows the same plan over two compiled values of the same texts.
-use Rattle.std.proofs.Common.{ℕ, suc, ◌≡◌, List, [], ◌∷◌, ◌++◌, map, filter, length, Option, Some, None, slice_get, refl, ap, sym, subst, ◌∙◌}
-use Rattle.plan_model.specs.declared.options.Checks.{Checks}
+use Rattle.std.proofs.Common.{ℕ, suc, ◌≡◌, List, [], ◌∷◌, ◌++◌, map, filter, length, Option, Some, slice_get, refl, ap, sym, subst, ◌∙◌}
 use Rattle.plan_model.specs.declared.steps.GroundAction.{GroundAction}
-use Rattle.plan_model.specs.declared.values.Hddl.{Hddl}
 use Rattle.plan_model.specs.declared.values.Compiled.{Compiled}
 use Rattle.plan_model.specs.task_networks.Tree.{Tree, Label, waits, ran, used, Address, label_at}
 use Rattle.plan_model.specs.task_networks.Spelling.{numbers}
-use Rattle.plan_model.specs.plan_meaning.Compilation.{IsCompiled}
 use Rattle.plan_model.specs.plan_meaning.Network.{Work, action, check, task, GroundMethod, network}
 use Rattle.plan_model.specs.plan_meaning.Truth.{State}
 use Rattle.plan_model.specs.plan_meaning.Solution.{top_work, Allows, next, initial, IsGoal}
-use Rattle.plan_texts.specs.FirstSeen.{IsHddlOf}
 use Rattle.renamed_networks.specs.Renamed.{SameLabel, SameTree}
 use Rattle.renamed_networks.proofs.RenamedTrees.{SameOption, same_labels, to_label}
 use Rattle.renamed_networks.proofs.RenamedRuns.{solution_with}

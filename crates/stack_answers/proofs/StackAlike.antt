@@ -1,41 +1,34 @@
 -- The values of two texts are decoded alike, where steps are those of a stack.
-use Rattle.std.proofs.Common.{ℕ, zero, suc, ◌≡◌, ◌≤◌, ◌+◌, ◌↔◌, ◌++◌, inl, inr, IsTrue, List, [], ◌∷◌, map, filter, length, not, slice_get, Option, Some, None, MatchOption, refl, ap, sym, subst, ◌∙◌, Contains}
+use Rattle.std.proofs.Common.{ℕ, suc, ◌≡◌, ◌≤◌, ◌+◌, ◌++◌, inl, inr, IsTrue, List, [], ◌∷◌, map, filter, length, not, slice_get, Option, Some, None, MatchOption, refl, ap, sym, subst, ◌∙◌, Contains}
 use Rattle.htn_base.specs.Escapes.{slot_word}
 use Rattle.plan_model.specs.Pairs.{Pairs}
-use Rattle.plan_model.specs.declared.options.Checks.{Checks}
 use Rattle.plan_model.specs.declared.terms.Param.{Param}
 use Rattle.plan_model.specs.declared.schemas.MethodPlan.{MethodPlan}
 use Rattle.plan_model.specs.declared.steps.GroundAction.{GroundAction}
-use Rattle.plan_model.specs.declared.values.Hddl.{Hddl}
 use Rattle.plan_model.specs.declared.values.Compiled.{Compiled}
-use Rattle.plan_model.specs.plan_meaning.Compilation.{IsCompiled}
 use Rattle.plan_model.specs.task_networks.Net.{count}
 use Rattle.plan_model.specs.task_networks.Order.{IsLine}
 use Rattle.plan_model.specs.task_networks.Tree.{Tree, Label, waits, ran, used, Address, label_at, IsOpen}
 use Rattle.plan_model.specs.task_networks.Executable.{last_state}
 use Rattle.plan_model.specs.task_networks.Spelling.{Act, run, apply, label_of, numbers, is_heir, others}
 use Rattle.plan_model.specs.plan_meaning.Truth.{State, AreTyped}
-use Rattle.plan_model.specs.plan_meaning.Network.{Work, action, check, task, GroundMethod, InTypeOf, IsGroundMethod, network}
-use Rattle.plan_model.specs.plan_meaning.Solution.{top_work, Allows, next, initial, IsGoal}
-use Rattle.plan_model.specs.plan_meaning.SpelledPlan.{object_word, work_name, method_name, step_of}
-use Rattle.plan_texts.specs.FirstSeen.{IsHddlOf}
+use Rattle.plan_model.specs.plan_meaning.Network.{Work, action, check, task, GroundMethod, InTypeOf, network}
+use Rattle.plan_model.specs.plan_meaning.Solution.{top_work, Allows, next, initial}
+use Rattle.plan_model.specs.plan_meaning.SpelledPlan.{object_word, step_of}
 use Rattle.slot_machine.specs.Reached.{HasLeaf}
-use Rattle.stack_machine.specs.Stack.{AreCellsFrom, AreCells, behind}
-use Rattle.stack_machine.specs.StackMachine.{SpellsCells}
+use Rattle.stack_machine.specs.Stack.{AreCells, behind}
 use Rattle.stack_encoding.specs.StackSpelling.{cells_of, stack_step, IsStackSpelling}
 use Rattle.decoding.specs.declared.causes.Why.{Why}
 use Rattle.decoding.specs.declared.causes.Why.TheVariants.{UnknownAction, Arguments, SlotHolds, Waiting, SlotTaken, Constraint, Precondition, Unfinished, GoalFalse}
 use Rattle.decoding.specs.FailingAct.{slot_in, work_in, IsUnmet}
 use Rattle.decoding.specs.PrintedSteps.{HasParams, own_objects, IsNamed}
-use Rattle.hplan_text.specs.declared.values.HPlan.{HPlan}
 use Rattle.renamed_networks.specs.Renamed.{AreSame, SameLabel, SameTree}
-use Rattle.renamed_networks.proofs.RenamedTrees.{flip, flipped, same_flip, to_label, open_back}
+use Rattle.renamed_networks.proofs.RenamedTrees.{flip, same_flip, to_label, open_back}
 use Rattle.renamed_networks.proofs.RenamedRuns.{SameAct, spells_to, executable_to}
-use Rattle.stack_decoding.specs.StackSteps.{children_of, named_cells, HasCells, HasArguments, IsStepOf, HoldsAtTip, Sentence, FailsBy, SpellsExecutable, StepFails, EndSentence, EndFails, FailsAt}
-use Rattle.decode_answers.proofs.Alike.{twins}
+use Rattle.stack_decoding.specs.StackSteps.{children_of, named_cells, HasCells, HasArguments, IsStepOf, HoldsAtTip, Sentence, SpellsExecutable, StepFails, EndSentence, EndFails, FailsAt}
 use Rattle.decode_answers.proofs.AlikeFailures.{another_tree}
 use Rattle.decode_answers.proofs.AlikeValues.{HoldTheSame, StandTogether, at_some, SamePlan, SameAction, AreTwins, twins_back, types, plan_place, action_place, action_types, plan_types, typed_to}
-use Rattle.decode_answers.proofs.AlikeReaders.{Equal, twin, head_same, count_same, step_same, act_twin, renaming, reader, alike_readers, label_back}
+use Rattle.decode_answers.proofs.AlikeReaders.{Equal, twin, head_same, count_same, step_same, act_twin, renaming, reader, alike_readers}
 
 module _ (c d : Compiled) (t : AreTwins c d) where
   -- names, objects and cells

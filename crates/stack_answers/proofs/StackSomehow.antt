@@ -1,5 +1,5 @@
 -- A list of steps of a stack shows a plan, or fails: it is told whether a step has the arguments that are due, and whose step it is.
-use Rattle.std.proofs.Common.{ℕ, zero, suc, ◌≡◌, ◌≤◌, ◌<◌, ◌+◌, ◌++◌, inl, inr, IsTrue, List, [], ◌∷◌, map, length, slice_get, Some, refl, ap, sym, subst, ◌∙◌, Contains, arith}
+use Rattle.std.proofs.Common.{ℕ, suc, ◌≡◌, ◌<◌, ◌+◌, ◌++◌, inl, inr, IsTrue, List, [], ◌∷◌, map, length, slice_get, Some, refl, ap, sym, subst, ◌∙◌, Contains, arith}
 use Rattle.htn_base.specs.Escapes.{slot_word}
 use Rattle.plan_model.specs.declared.schemas.ActionSchema.{ActionSchema}
 use Rattle.plan_model.specs.declared.schemas.MethodPlan.{MethodPlan}
@@ -11,20 +11,19 @@ use Rattle.plan_model.specs.declared.values.Compiled.{Compiled}
 use Rattle.plan_model.specs.task_networks.Net.{count}
 use Rattle.plan_model.specs.task_networks.Spelling.{Act, run, apply, numbers, others}
 use Rattle.plan_model.specs.plan_meaning.Truth.{State, AreTyped}
-use Rattle.plan_model.specs.plan_meaning.Network.{Work, action, check, task, GroundMethod, InTypeOf, objects_of, network}
+use Rattle.plan_model.specs.plan_meaning.Network.{Work, action, check, task, GroundMethod, InTypeOf, network}
 use Rattle.plan_model.specs.plan_meaning.Solution.{top_work, Allows, next, initial, IsGoal}
 use Rattle.plan_model.specs.plan_meaning.SpelledPlan.{object_word, work_name, method_name, step_of}
-use Rattle.plan_model.proofs.task_networks.Numbers.{numbers_to, to_numbers}
-use Rattle.slot_machine.proofs.bound_laws.Decided.{Or_not, AreTold, same_or_not, less_or_not, both, each_or_not, some_or_not, has_or_not}
+use Rattle.plan_model.proofs.task_networks.Numbers.{to_numbers}
+use Rattle.slot_machine.proofs.bound_laws.Decided.{Or_not, AreTold, same_or_not, less_or_not, both, each_or_not, some_or_not}
 use Rattle.stack_machine.specs.Stack.{IsTotal, AreCellsFrom, behind}
-use Rattle.stack_machine.proofs.Heights.{line_of, is_line, high, high_of}
+use Rattle.stack_machine.proofs.Heights.{line_of, is_line, high_of}
 use Rattle.slot_machine.proofs.OtherChildren.{map_same}
 use Rattle.stack_encoding.specs.StackSpelling.{cells_of, stack_step}
 use Rattle.decoding.specs.FailingLaws.{AreDecided}
 use Rattle.decoding.specs.PrintedSteps.{HasParams, own_objects}
 use Rattle.decoding.proofs.Searched.{each_is_decided}
 use Rattle.hplan_text.specs.declared.values.HPlan.{HPlan}
-use Rattle.hplan_text.specs.ShownLaws.{IsShownOnce}
 use Rattle.hplan_text.proofs.ShownOnce.{each_is_shown_once}
 use Rattle.stack_decoding.specs.StackSteps.{named_cells, AreUpTo, HasArguments, IsStepOf, SpellsSolution}
 use Rattle.stack_decoding.specs.StackShown.{StackShown}
@@ -33,7 +32,7 @@ use Rattle.stack_decoding.proofs.CellSteps.{own_named, as_many_cells}
 use Rattle.stack_decoding.proofs.ActLists.{reading}
 use Rattle.stack_decoding.proofs.StackLists.{narrow_solution, narrowly}
 use Rattle.decode_answers.proofs.SomehowTruth.{same_list}
-use Rattle.decode_answers.proofs.SomehowSearched.{true_told, place_told, lists_told, same_step, lists_of, to_lists, IsSlot, slot_told}
+use Rattle.decode_answers.proofs.SomehowSearched.{true_told, place_told, same_step, lists_of, to_lists, IsSlot, slot_told}
 use Rattle.decode_answers.proofs.SomehowStates.{same_work, objects_told, precedes_told, ground_told, goal_told, allows_told}
 use Rattle.decode_answers.proofs.SomehowRead.{named_told}
 use Rattle.stack_answers.specs.StackDecodeLaws.{IsStackDecodedSomehow, IsStackDecodable, EachIsStackDecodedSomehow}
