@@ -143,7 +143,7 @@ module _ (r : DecodeRequest) (d p plan : List ℕ) where
 
     -- what is told
     pub gives_tree : (text : List ℕ) → IsToldFor r.form r.level c g plan text → GivesTree r d p plan (told_alone text)
-    gives_tree text (steps, read, (slots, few, ordered, chosen, have, short)) = (c, steps, slots, text, for_slots steps read few ordered slots chosen, have, refl)
+    gives_tree text (steps, read, (slots, few, ordered, chosen, (have, short))) = (c, steps, slots, text, for_slots steps read few ordered slots chosen, have, refl)
 
     pub tree_fits : (text : List ℕ) → IsToldFor r.form r.level c g plan text → length text ≤ longest_output
-    tree_fits text (steps, read, (slots, few, ordered, chosen, have, short)) = short
+    tree_fits text (steps, read, (slots, few, ordered, chosen, (have, short))) = short

@@ -1,5 +1,5 @@
 -- What the problem of two texts is, each problem that they spell is: they have one bound, one named cycle and one meaning of lists.
-use Rattle.std.proofs.Common.{ℕ, ◌≡◌, ◌≤◌, ◌++◌, ◌∷◌, List, Option, Some, None, IfSome, codes, sym, ap, ◌∙◌, subst}
+use Rattle.std.proofs.Common.{ℕ, ◌≡◌, ◌≤◌, ◌++◌, ◌∷◌, List, Option, Some, None, IfSome, codes, sym, ap, ◌∙◌, subst, arith}
 use Rattle.htn_base.specs.Limits.{most_slots}
 use Rattle.outside_io.specs.Sink.{SinkState}
 use Rattle.plan_model.specs.declared.options.Checks.{Checks}
@@ -113,7 +113,7 @@ module _ (d p : List ℕ) (checks : Checks) (c : Compiled) (source : SpellProble
     printed =
         printed_as Any c slots Adl source.value checks encoded.value source.read.sound.value source.compiled_is form ordered
         (printable_of Any c slots Adl source.value checks encoded.value source.read.sound.value source.compiled_is form encoded.encoded encoded.words
-        (countable source.value checks c slots source.read.sound source.compiled_is some few))
+        (countable source.value checks c slots source.read.sound source.compiled_is some few) (omega (arith, few)))
         encoded.encoded
 
     pub each_faithful : HeadlineBy (SpellingAs form Any) d p checks slots (domain_text encoded.value) (problem_text encoded.value)

@@ -149,7 +149,7 @@ module _ (once : EachIsDecodedOnceAs) (alike : ValuesAreDecodedAlikeAs) (ground 
 
   -- of a problem that the form takes
   module _ (c : Compiled) (steps : List GroundAction) (s : SpellFormSteps request d p l c steps) where
-    meant : Meant
+    abbrev meant : Meant
     meant = (c, steps, s.spelled.spelled)
 
     follows : (a : Answer) → Follows most_slots request.level request.numeral c (Decodes meant) a → (x : Meant) × Decided x a
