@@ -1,2 +1,2 @@
--- The text of the steps of a placed plan.
 pub mod Texts
+pub mod StackTexts

@@ -71,7 +71,7 @@ module _ (c : Compiled) (sound : IsSoundlyCompiled c) (plan : HPlan) (run : Sche
   abbrev order : List Address
   order = placed.1
 
-  is_finished : IsFinishedRun c run tree order
+  pub is_finished : IsFinishedRun c run tree order
   is_finished = record {
     stands = placed.3;
     finished =
@@ -79,7 +79,7 @@ module _ (c : Compiled) (sound : IsSoundlyCompiled c) (plan : HPlan) (run : Sche
         (record { sound = sound.sound; ordered = sound.ordered; compiled = sound.compiled }) plan tree order placed.2).0.finished;
   }
 
-  has_width : (w : ℕ) → spelled.IsWidthOf c run w → HasWidth c plan w
+  pub has_width : (w : ℕ) → spelled.IsWidthOf c run w → HasWidth c plan w
   has_width w is = record { tree = tree; order = order; placed = placed.2; width_is = is tree order is_finished }
 
   is_processed : (p : Address) (l : Label N) → label_at N tree p ≡ Some l → IsProcessed N tree p

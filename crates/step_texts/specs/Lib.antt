@@ -1,1 +1,2 @@
 pub mod StepTexts
+pub mod StackTexts

@@ -127,7 +127,7 @@ fn put(
 }
 
 /// Puts the line with the width.
-fn put_width(width: u32, sheet: &mut Sheet<'_>)
+pub(crate) fn put_width(width: u32, sheet: &mut Sheet<'_>)
     ensures { Wrote (spec.width_line width) sheet.old sheet.new }
 {
     let mut digits = Buffer::new();

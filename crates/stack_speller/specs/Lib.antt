@@ -1,0 +1,3 @@
+pub mod Tips
+pub mod StackSteps
+pub mod StackSpelled
