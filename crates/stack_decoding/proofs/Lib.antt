@@ -1,0 +1,6 @@
+pub mod StepNames
+pub mod CellSteps
+pub mod Tips
+pub mod Translated
+pub mod ActLists
+pub mod StackLists

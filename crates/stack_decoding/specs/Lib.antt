@@ -1,0 +1,3 @@
+pub mod StackSteps
+pub mod StackStepLaws
+pub mod StackShown
