@@ -175,8 +175,8 @@ module _ (d p : List ℕ) (h : Hddl) (checks : Checks) (c : Compiled) (b : ℕ) 
 
   pub one_plan : (form : PrintedForm) → by ≡ First → IsPrintedAs form by h checks c b style v → OnePlanForEach (SpellingAs form by) d p checks b (domain_text v) (problem_text v)
   one_plan Slots first printed = one_plan_by d p h checks c b style v spelled ordered by first printed
-  one_plan Stack first printed k q is are tree order solution within =
-      let (steps, cell, s, plan, only) = one_tree printed k q is are tree order solution within in (steps, cell, s, plan, λ others cell' z. only others order cell' z)
+  one_plan Stack first printed = λ k q is are tree order solution within.
+      (let (steps, cell, s, plan, only) = one_tree printed k q is are tree order solution within in (steps, cell, s, plan, λ others cell' z. only others order cell' z))
 
   pub one_plan_for_tree : (form : PrintedForm) → form ≡ Stack → IsPrintedAs form by h checks c b style v → OnePlanForEachTree (SpellingAs form by) d p checks b (domain_text v) (problem_text v)
   one_plan_for_tree Slots e printed = absurd (cc)

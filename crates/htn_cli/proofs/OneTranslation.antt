@@ -94,7 +94,7 @@ module _ (request : TranslationRequest) (d p : List ℕ) where
         → a ≡ refuses (refused.Finding (finding.NotTotallyOrdered word)) → Ends a
 
   -- what holds of a problem that is printed holds of each with the same texts
-  here : AreFor d p request.checks request.form → (c : Compiled) → SpellProblem d p request.checks c → Source
+  abbrev here : AreFor d p request.checks request.form → (c : Compiled) → SpellProblem d p request.checks c → Source
   here (k, is, o) c source = (c, source, ordered_too d p request.checks k c is source request.rule 1 request.style request.form o)
 
   printed : (c : Compiled) (slots : ℕ) (a : Answer) (source : IsForSlots request d p c slots) → Prints (c, source.problem_is, source.ordered) slots a → Ends a

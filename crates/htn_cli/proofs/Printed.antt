@@ -1,5 +1,5 @@
 -- What is printed of a compiled problem, where neither text is too long, or one is.
-use Rattle.std.proofs.Common.{ℕ, subst, ◌<◌, ◌≤◌, ◌^◌, List, length, inl, inr, ap, ◌∙◌, arith}
+use Rattle.std.proofs.Common.{ℕ, subst, sym, ◌<◌, ◌≤◌, ◌^◌, List, length, inl, inr, ap, ◌∙◌, arith}
 use Rattle.htn_base.specs.Limits.{longest_output}
 use Rattle.plan_model.specs.declared.values.Hddl.{Hddl}
 use Rattle.plan_model.specs.declared.values.Compiled.{Compiled}
@@ -56,8 +56,8 @@ module _ (compiled : Compiled) (manner : Manner) where
   )
   whole_by texts Stack p = (
     record { value = p.value; encoded = p.is.encoded; words = p.is.words; printable = p.is.printable; domain_is = p.texts.0; problem_is = p.texts.1 },
-    p.texts.2,
-    p.texts.3,
+    subst (λ z. capped (length z) ≤ longest_output) (sym p.texts.0) p.texts.2,
+    subst (λ z. capped (length z) ≤ longest_output) (sym p.texts.1) p.texts.3,
   )
 
   pub whole_is_printed : (texts : Made) → IsPrintedWithin compiled manner (Whole texts) → AreWhole compiled manner (texts_of texts)

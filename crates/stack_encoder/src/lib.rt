@@ -1,6 +1,8 @@
-//! Which methods of a compiled problem are totally ordered. The contract used above: `untotal` gives the first that is not.
+//! The two printed texts of a compiled problem as a stack, within a limit, and how long they are; and which methods are totally ordered.
 #![tactic(auto)]
 
 mod order;
+mod printing;
 
 pub use order::untotal;
+pub use printing::{stack_sizes, stack_texts_of};
