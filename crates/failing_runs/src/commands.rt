@@ -2,7 +2,7 @@
 use crate::made::{MADE_DOMAIN, MADE_PROBLEM};
 use crate::texts::{
     DOMAIN, FIRST_DOMAIN, FIRST_PROBLEM, PLAN, PRINTED_DOMAIN, PRINTED_PROBLEM, PROBLEM,
-    PRUNED_DOMAIN, PRUNED_PROBLEM, TREE, TWO_DOMAIN,
+    PRUNED_DOMAIN, PRUNED_PROBLEM, STACK_DOMAIN, STACK_PROBLEM, TREE, TWO_DOMAIN,
 };
 
 /// What a text is read as.
@@ -110,6 +110,20 @@ pub(crate) const COMMANDS: &[Command] = &[
         reads: &[TWO, P],
         writes: &[("od", FIRST_DOMAIN), ("op", FIRST_PROBLEM)],
         tells: "slots 2\n",
+    },
+    Command {
+        words: &[
+            "translate",
+            "d.hddl",
+            "p.hddl",
+            "od",
+            "op",
+            "--form",
+            "stack",
+        ],
+        reads: &[D, P],
+        writes: &[("od", STACK_DOMAIN), ("op", STACK_PROBLEM)],
+        tells: "slots 1\n",
     },
     Command {
         words: &["bound", "d.hddl", "p.hddl"],
