@@ -50,6 +50,8 @@ for example in smallest tail-recursive free-variable; do
     "$htn" translate d p pd pp >"$work/log"
     refused translate d p od op
     refused translate d p od op --style flat
+    refused translate d p od op --slots first
+    refused translate d p od op --form stack
     refused bound d p
     refused bound d p --level ground
     refused decode d p plan
