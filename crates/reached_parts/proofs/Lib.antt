@@ -19,6 +19,7 @@ pub mod Adding
 pub mod AtomLaws
 pub mod JoinLaws
 pub mod PuttingAtoms
+pub mod ByTask
 pub mod UsingLaws
 pub mod UsingLoops
 pub mod Rounds

@@ -15,3 +15,4 @@ pub mod SearchLaws
 pub mod Found
 pub mod ReachedOf
 pub mod Using
+pub mod ByTask

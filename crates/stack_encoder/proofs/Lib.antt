@@ -1,3 +1,15 @@
+pub mod LowestCell
 pub mod Neighbours
 pub mod PairPlaces
 pub mod FirstUnordered
+pub mod MoreWords
+pub mod DeclaredParts
+pub mod ActionPlaces
+pub mod MethodActions
+pub mod ChildCells
+pub mod Putting
+pub mod StackOf
+pub mod CellFacts
+pub mod Heads
+pub mod MethodParts
+pub mod Ended

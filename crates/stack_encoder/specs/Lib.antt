@@ -1,1 +1,5 @@
+pub mod Pieces
+pub mod Words
+pub mod Heads
+pub mod Made
 pub mod StackTexts

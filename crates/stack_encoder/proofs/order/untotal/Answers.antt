@@ -1,4 +1,4 @@
-use Rattle.std.proofs.Common.{◌≡◌, refl, arith}
+use Rattle.std.proofs.Common.{refl, arith}
 use Rattle.std.proofs.lemmas.Option.{slice_get_read}
 use Rattle.stack_encoder.proofs.FirstUnordered.{lined, ordered_more, ordered_all, first_unordered}
 use Rattle.stack_encoder.proofs.order.untotal.Goals as goal
