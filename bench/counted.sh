@@ -3,9 +3,10 @@
 # actions at one slot; the smallest problem at 65,536 slots in style adl; 54 actions at 65,536 slots in style flat; Transport with
 # 2,000 packages at 4,096 slots; 500 methods of 40 subtasks; 140,000 facts; and `validate` of 50,000 steps (bench/validate.sh has
 # the same with a million); `decode` of 25,000 uses of a tail-recursive method, and of the deliveries of 200 packages, and `encode` of
-# the trees of both; `make 200`, and of its problem `translate` with 1,024 first-free slots; `bound --level ground` of 100 packages,
-# 10 vehicles and 30 places on a ring; and `prune` of 2,000 tasks with four methods each, half of which are kept (at most 160 million
-# are asked for). Wants ./htn, as examples/transport/run leaves it, and valgrind. A line each: the instructions.
+# the trees of both; `make 200`, and of its problem `translate` with 1,024 first-free slots, and, with its deliveries one after the other,
+# as a stack of 65,536 cells and of as many as its bound; `bound --level ground` of 100 packages, 10 vehicles and 30 places on a ring; and
+# `prune` of 2,000 tasks with four methods each, half of which are kept (at most 160 million are asked for). Wants ./htn, as
+# examples/transport/run leaves it, and valgrind. A line each: the instructions.
 #
 # Counted, in the order of the cases, millions: 19.7, 97.7, 754.8, 407.6, 303.0, 285.5, 215.4, `decode` 314.4, 24.5, `encode` 389.5, 34.9
 # (470.6 and 41.1 before steps were put on the sheet straight from slots and words), `make 200` 31.2 (37.8 before trees were joined
@@ -139,6 +140,9 @@ counted "make 200" make 200 "$work/od" "$work/op"
     echo " (:init (road l0 l1) (road l1 l0) (at v1 l0) $(seq -f '(at p%g l0)' -s ' ' 200)))"
 } >"$work/made_200"
 counted "translate of made 200, first-free slots, at most 190 million asked" translate "$transport/domain.hddl" "$work/made_200" "$work/od" "$work/op" --bound 1024 --slots first
+sed 's/:subtasks/:ordered-subtasks/' "$work/made_200" >"$work/made_200_ordered"
+counted "translate of made 200, ordered, a stack of 65,536 cells, at most 80 million asked" translate "$transport/domain.hddl" "$work/made_200_ordered" "$work/od" "$work/op" --bound 65536 --form stack
+counted "translate of made 200, ordered, a stack of 204 cells" translate "$transport/domain.hddl" "$work/made_200_ordered" "$work/od" "$work/op" --form stack
 
 {
     echo "(define (problem ring) (:domain transport)"

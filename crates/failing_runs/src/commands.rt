@@ -2,7 +2,7 @@
 use crate::made::{MADE_DOMAIN, MADE_PROBLEM};
 use crate::texts::{
     DOMAIN, FIRST_DOMAIN, FIRST_PROBLEM, PLAN, PRINTED_DOMAIN, PRINTED_PROBLEM, PROBLEM,
-    PRUNED_DOMAIN, PRUNED_PROBLEM, TREE, TWO_DOMAIN,
+    PRUNED_DOMAIN, PRUNED_PROBLEM, STACK_DOMAIN, STACK_PLAN, STACK_PROBLEM, TREE, TWO_DOMAIN,
 };
 
 /// What a text is read as.
@@ -66,6 +66,12 @@ const SPELLING: Input = Input {
     form: Form::Spelling,
 };
 
+const STACKED: Input = Input {
+    name: "plan",
+    text: STACK_PLAN,
+    form: Form::Spelling,
+};
+
 const HPLAN: Input = Input {
     name: "hplan",
     text: TREE,
@@ -112,6 +118,20 @@ pub(crate) const COMMANDS: &[Command] = &[
         tells: "slots 2\n",
     },
     Command {
+        words: &[
+            "translate",
+            "d.hddl",
+            "p.hddl",
+            "od",
+            "op",
+            "--form",
+            "stack",
+        ],
+        reads: &[D, P],
+        writes: &[("od", STACK_DOMAIN), ("op", STACK_PROBLEM)],
+        tells: "slots 1\n",
+    },
+    Command {
         words: &["bound", "d.hddl", "p.hddl"],
         reads: &[D, P],
         writes: &[],
@@ -134,6 +154,18 @@ pub(crate) const COMMANDS: &[Command] = &[
         reads: &[D, P, HPLAN],
         writes: &[],
         tells: "; slots 1\n(htn_start htn_s1)\n(htn_m_m htn_s1)\n(a htn_s1)\n",
+    },
+    Command {
+        words: &["decode", "d.hddl", "p.hddl", "plan", "--form", "stack"],
+        reads: &[D, P, STACKED],
+        writes: &[],
+        tells: TREE,
+    },
+    Command {
+        words: &["encode", "d.hddl", "p.hddl", "hplan", "--form", "stack"],
+        reads: &[D, P, HPLAN],
+        writes: &[],
+        tells: "; slots 1\n(htn_start htn_s1)\n(htn_m_m htn_s1)\n(a htn_s0 htn_s1)\n",
     },
     Command {
         words: &["validate", "pd", "pp", "plan"],

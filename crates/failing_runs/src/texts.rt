@@ -51,7 +51,31 @@ pub(crate) const FIRST_PROBLEM: &str = concat!(
     ")\n",
 );
 
+/// Those of the smallest problem with the cells of a stack; they were made by hand, from the rules.
+pub(crate) const STACK_DOMAIN: &str = concat!(
+    "(define (domain d)\n",
+    " (:requirements :adl)\n",
+    " (:types htn_slot - object htn_object - object)\n",
+    " (:constants htn_s0 - htn_slot htn_s1 - htn_slot)\n",
+    " (:predicates (htn_top ?htn_h - htn_slot) (htn_tip ?htn_h - htn_slot) (htn_up ?htn_x - htn_slot ?htn_h - htn_slot) (htn_t_t ?htn_h - htn_slot) (htn_a_a ?htn_h - htn_slot))\n",
+    " (:action htn_start :parameters (?htn_h - htn_slot) :precondition (and (htn_top ?htn_h) (htn_tip ?htn_h)) :effect (and (not (htn_top ?htn_h)) (htn_t_t ?htn_h)))\n",
+    " (:action htn_m_m :parameters (?htn_h - htn_slot) :precondition (and (htn_t_t ?htn_h) (htn_tip ?htn_h)) :effect (and (not (htn_t_t ?htn_h)) (htn_a_a ?htn_h)))\n",
+    " (:action a :parameters (?htn_d - htn_slot ?htn_h - htn_slot) :precondition (and (htn_a_a ?htn_h) (htn_tip ?htn_h) (htn_up ?htn_d ?htn_h)) :effect (and (not (htn_a_a ?htn_h)) (not (htn_tip ?htn_h)) (htn_tip ?htn_d)))\n",
+    ")\n",
+);
+
+pub(crate) const STACK_PROBLEM: &str = concat!(
+    "(define (problem p)\n",
+    " (:domain d)\n",
+    " (:objects)\n",
+    " (:init (htn_top htn_s1) (htn_tip htn_s1) (htn_up htn_s0 htn_s1))\n",
+    " (:goal (and (htn_tip htn_s0)))\n",
+    ")\n",
+);
+
 pub(crate) const PLAN: &str = "(htn_start htn_s1)\n(htn_m_m htn_s1)\n(a htn_s1)\n";
+
+pub(crate) const STACK_PLAN: &str = "(htn_start htn_s1)\n(htn_m_m htn_s1)\n(a htn_s0 htn_s1)\n";
 
 pub(crate) const TREE: &str = "==>\n0 a\nroot 1\n1 t -> m 0\n<==\n";
 

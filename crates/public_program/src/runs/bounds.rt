@@ -69,12 +69,27 @@ fn as_many_slots_as_there_may_be(rt: HostRuntime) {
     }
 }
 
+const CELLS: &[&str] = &["--bound", "65536", "--form", "stack"];
+
+const CELL_MANNERS: &[&[&str]] = &[&[], &["--checks", "atonce"]];
+
+#[test]
+fn as_many_cells_as_there_may_be(rt: HostRuntime) {
+    for manner in CELL_MANNERS {
+        has_slots(&rt, rt.alloc(), CELLS, manner, "slots 65536\n");
+    }
+}
+
 /// Numbers of slots past a limit, and the line.
 const PAST: &[(&[&str], &str)] = &[
     (&["--bound", "65537"], "limit slots 65537\n"),
     (
         &["--bound", "1025", "--slots", "first"],
         "limit slots 1025\n",
+    ),
+    (
+        &["--bound", "65537", "--form", "stack"],
+        "limit slots 65537\n",
     ),
     (
         &["--bound", "340282366920938463463374607431768211455"],

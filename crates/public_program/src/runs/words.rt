@@ -32,6 +32,7 @@ const WORDS: &[&[&str]] = &[
     &["bound", "d.hddl", "p.hddl", "--bound", "1"],
     &["bound", "d.hddl", "p.hddl", "--style", "adl"],
     &["bound", "d.hddl", "p.hddl", "--level"],
+    &["bound", "d.hddl", "p.hddl", "--form", "stack"],
     &["encode", "d.hddl", "p.hddl", "hplan", "--level", "ground"],
     &["prune", "d.hddl", "p.hddl", "p.hddl", "op.pddl"],
     &[
@@ -51,6 +52,9 @@ const OPTIONS: &[&[&str]] = &[
     &["--bound", "1", "--slots", "1"],
     &["--level", "flat"],
     &["--level", "ground", "--bound", "1"],
+    &["--form", "flat"],
+    &["--form", "stack", "--style", "adl"],
+    &["--slots", "any", "--form", "stack"],
 ];
 
 fn refuses(
