@@ -27,11 +27,16 @@ module _ (n : ℕ) where
   behind-this : (x : ℕ) (l : List ℕ) (i : ℕ) → x ≡ i → behind (x ∷ l) i ≡ length l
   behind-this x l i same = elim (eqb_tells x i) [ inl t ↦ ap (λ b. cond b (length l) (behind l i)) t.0 | inr t ↦ absurd (t.1 same) ]
 
-  pub cells-none : replicate n 0 ≡ cells []
+  abbrev zeros : List ℕ
+  zeros = replicate n 0
+
+  length-zeros : length zeros ≡ n
+  length-zeros = length-replicate n 0
+
+  pub cells-none : zeros ≡ cells []
   cells-none =
-      let same : length (replicate n 0) ≡ length (cells []) = length-replicate {A = ℕ} n 0 ∙ sym (length-cells []) in
-      ext_get_or 0 (replicate n 0) (cells []) same
-      (λ i h. let l : i < n = omega (arith, h, length-replicate {A = ℕ} n 0) in get_or-replicate n i 0 0 l ∙ sym (cell-at [] i l))
+      ext_get_or 0 zeros (cells []) (length-zeros ∙ sym (length-cells []))
+      (λ i h. let l : i < n = omega (arith, h, length-zeros) in get_or-replicate n i 0 0 l ∙ sym (cell-at [] i l))
 
   cells-past : (x : ℕ) (l : List ℕ) → n ≤ x → cells l ≡ cells (x ∷ l)
   cells-past x l past =

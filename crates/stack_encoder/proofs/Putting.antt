@@ -12,8 +12,7 @@ use Rattle.pddl_printer.specs.Behind.{line, of_each}
 use Rattle.pddl_printer.specs.InForm.{action_in}
 use Rattle.pddl_printer.specs.Texts.{action_text}
 use Rattle.pddl_printer.proofs.Each.{each-next, lines-each-made}
-use Rattle.stack_encoder.specs.Heads.{all_actions}
-use Rattle.stack_encoder.specs.StackTexts.{actions_put}
+use Rattle.stack_encoder.specs.Heads.{all_actions, actions_put}
 use Rattle.stack_encoder.specs.declared.encoding.StackEncoding.{StackEncoding}
 
 module _ (c : Compiled) (e : StackEncoding) where

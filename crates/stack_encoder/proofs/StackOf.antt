@@ -30,5 +30,5 @@ module _ (c : Compiled) (e : StackEncoding) (b : ℕ) (made : IsStackEncoding c 
   pub if-printed : {E : Type 0} (limit : ℕ) (r : Result Printed E) → IfOk r (AreTextsWithin (value_of c e) limit) → IfOk r (AreStackTextsWithin c b limit)
   if-printed limit r are = IfOk-weaker r (AreTextsWithin (value_of c e) limit) (AreStackTextsWithin c b limit) (λ printed t. record { value = value_of c e; is = is-stack; texts = t }) are
 
-  pub if-sized : {E : Type 0} (r : Result Sizes E) → IfOk r (AreLengthsOf (value_of c e)) → IfOk r (AreStackSizes c b)
-  if-sized r are = IfOk-weaker r (AreLengthsOf (value_of c e)) (AreStackSizes c b) (λ sizes t. record { value = value_of c e; is = is-stack; lengths = t }) are
+  pub are-sizes : (s : Sizes) → AreLengthsOf (value_of c e) s → AreStackSizes c b s
+  are-sizes s are = record { value = value_of c e; is = is-stack; lengths = are }

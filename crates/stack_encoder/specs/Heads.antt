@@ -1,12 +1,13 @@
 -- The parts of the printed problem of a stack that stand before its actions and behind them.
 -- Source: this project's encoding.
-use Rattle.std.specs.Prelude.{ℕ, ◌≡◌, ◌<◌, ◌^◌, List, [], ◌∷◌, ◌++◌, length}
+use Rattle.std.specs.Prelude.{ℕ, ◌≡◌, ◌<◌, ◌^◌, None, List, [], ◌∷◌, ◌++◌, length}
 use Rattle.plan_model.specs.declared.formulas.Formula.{Formula}
 use Rattle.plan_model.specs.declared.formulas.Formula.TheVariants.{Holds, And}
 use Rattle.plan_model.specs.declared.terms.Term.TheVariants.{Obj}
 use Rattle.plan_model.specs.declared.schemas.ActionSchema.{ActionSchema}
 use Rattle.plan_model.specs.declared.values.Compiled.{Compiled}
 use Rattle.plan_model.specs.declared.values.Pddl.{Pddl}
+use Rattle.pddl_printer.specs.Texts.{actions_text}
 use Rattle.slot_encoding.specs.SourceParts.{renamed}
 use Rattle.slot_encoding.specs.EncodedNames.{encoded_types}
 use Rattle.slot_encoding.specs.MethodParts.{condition_part}
@@ -54,3 +55,7 @@ pub record IsStackEncoding (c : Compiled) (e : StackEncoding) : Type 0 where
   pub short : length e.head.names < 2 ^ 32
   pub table : e.names ≡ e.head.names
   pub basis : IsBasis c e.names e.cells e.basis
+
+-- the lines of some actions
+abbrev pub actions_put : StackEncoding → List ActionSchema → List ℕ
+actions_put e actions = actions_text e.head None actions

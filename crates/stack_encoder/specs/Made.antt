@@ -132,15 +132,9 @@ module _ (f : Frame) where
     eff = E.And (climbing_effects check count plan);
   }
 
-  -- one of the methods, of the checks, of all actions
+  -- one of the methods, and one of the checks
   abbrev pub IsMethod : ℕ → ActionSchema → Type 0
   IsMethod m a = slice_get (value.stack_methods c words b 0 c.methods) m ≡ Some a
 
   abbrev pub IsCheck : ℕ → ActionSchema → Type 0
   IsCheck j a = slice_get (value.stack_checks c words b 0 c.methods) j ≡ Some a
-
-  abbrev pub all_actions : List ActionSchema
-  all_actions = value.stack_actions c words b
-
-  abbrev pub IsAction : ℕ → ActionSchema → Type 0
-  IsAction k a = slice_get all_actions k ≡ Some a

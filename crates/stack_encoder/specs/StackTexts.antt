@@ -1,7 +1,6 @@
 -- What two printed texts of a compiled problem are, with a stack, how long they are, and what is printed of them within a limit.
 -- Source: this project's encoding.
-use Rattle.std.specs.Prelude.{ℕ, ◌<◌, ◌^◌, None, List, length}
-use Rattle.plan_model.specs.declared.schemas.ActionSchema.{ActionSchema}
+use Rattle.std.specs.Prelude.{ℕ, ◌<◌, ◌^◌, length}
 use Rattle.plan_model.specs.declared.values.Compiled.{Compiled}
 use Rattle.plan_model.specs.declared.values.Pddl.{Pddl}
 use Rattle.slot_encoder.specs.Encodings.{IsPrintableWhereSound}
@@ -10,8 +9,6 @@ use Rattle.stack_encoding.specs.StackWords.{HasStackWords}
 use Rattle.problem_texts.specs.Pages.{AreTextsWithin, AreLengthsOf}
 use Rattle.problem_texts.specs.declared.printing.Printed.{Printed}
 use Rattle.problem_texts.specs.declared.printing.Sizes.{Sizes}
-use Rattle.pddl_printer.specs.Texts.{actions_text}
-use Rattle.stack_encoder.specs.declared.encoding.StackEncoding.{StackEncoding}
 
 -- an encoded value with cells 0 to b, over a table that has all its words
 pub record IsStackOf (c : Compiled) (b : ℕ) (p : Pddl) : Type 0 where
@@ -31,7 +28,3 @@ pub record AreStackSizes (c : Compiled) (b : ℕ) (sizes : Sizes) : Type 0 where
   pub value : Pddl
   pub is : IsStackOf c b value
   pub lengths : AreLengthsOf value sizes
-
--- the lines of these actions
-abbrev pub actions_put : StackEncoding → List ActionSchema → List ℕ
-actions_put e actions = actions_text e.head None actions

@@ -4,10 +4,11 @@ ghost use Rattle.plan_model.specs.declared.options.Style.TheVariants.{Adl};
 ghost use Rattle.slot_encoding.specs.slot_declarations.Frames.{IsFrame};
 ghost use Rattle.stack_encoder.specs.Made as made;
 
-use crate::actions::action_at;
 use crate::declarations::declared;
 use crate::initial::{goal_of, initial_of};
+use crate::methods::stack_method;
 use crate::words::words_of;
+use crate::works::{stack_action, stack_check};
 use htn_base::{List, Memory, NameTable};
 use plan_model::{ActionSchema, Compiled, Pddl, Style};
 use slot_encoding::slot_declarations::{Basis, Frame, basis_of, renamed};
@@ -15,23 +16,13 @@ use std::alloc::Global;
 
 /// The printed problem with cells 0 to `cells`, ready to be taken part by part: `head` has all but the actions, with all words, and
 /// `action` makes one action at a time.
+#[derive(Drop)]
 pub struct StackEncoding {
     pub head: Pddl,
     pub cells: u32,
     // finds the words of the head
     names: NameTable,
     basis: Basis,
-}
-
-impl Drop for StackEncoding {
-    fn drop(self) {
-        let StackEncoding {
-            head: _,
-            cells: _,
-            names: _,
-            basis: _,
-        } = self;
-    }
 }
 
 impl StackEncoding {
@@ -89,7 +80,17 @@ impl StackEncoding {
             style: Style::Adl,
             basis: &self.basis,
         };
-        action_at(alloc, &frame, k)
+        let methods = c.methods.len() as u32;
+        let checks = self.basis.checks.methods.len() as u32;
+        if k < methods {
+            stack_method(alloc, &frame, k)
+        } else if k - methods < checks {
+            stack_check(alloc, &frame, k - methods)
+        } else {
+            let a = k - methods - checks;
+            let action = &c.hddl.actions.as_slice()[a as usize];
+            stack_action(alloc, &frame, a, action)
+        }
     }
 }
 

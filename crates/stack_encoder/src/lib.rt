@@ -6,7 +6,6 @@
 //! sound, if neither is longer than the limit; else the length of the first that is. `stack_sizes` gives their lengths.
 #![tactic(auto)]
 
-mod actions;
 mod atoms;
 mod declarations;
 mod encoding;

@@ -44,7 +44,14 @@ fn falling_method(
     ensures { IfOk result (λ a. a ≡ made.falling_method frame.now name plan.now) }
 {
     let params = falling_params(alloc, frame, plan.schema.params.as_slice())?;
-    let condition = falling_condition(alloc, frame, plan)?;
+    let mut condition = List::new(alloc);
+    push_at_tip(
+        alloc,
+        frame,
+        task_in(alloc, frame, plan, 1, 2),
+        &mut condition,
+    )?;
+    push_behind(alloc, frame, 2, plan, &mut condition)?;
     let mut effects = List::new(alloc);
     push_falling(
         alloc,
@@ -58,20 +65,6 @@ fn falling_method(
         pre: Formula::And(condition),
         eff: Effect::And(effects),
     })
-}
-
-fn falling_condition(
-    alloc: Global,
-    frame: &Frame<'_>,
-    plan: &MethodPlan,
-) -> Result<List<Formula>, Memory>
-    requires { IsFrame frame.now }
-    ensures { IfOk result (λ fs. fs ≡ made.method_condition frame.now 0 plan.now) }
-{
-    let mut into = List::new(alloc);
-    push_at_tip(alloc, frame, task_in(alloc, frame, plan, 1, 2), &mut into)?;
-    push_behind(alloc, frame, 2, plan, &mut into)?;
-    Ok(into)
 }
 
 /// The action of a method with so many children, some: they come in the place of its task and above it.

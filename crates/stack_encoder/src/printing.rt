@@ -2,9 +2,9 @@ ghost use Rattle.std.specs.Prelude.{ℕ, ◌≡◌, List, length, IfOk, OnOk};
 ghost use Rattle.plan_model.specs.Parts.{AreListed};
 ghost use Rattle.plan_texts.specs.PrintedTexts.{domain_text, problem_text};
 ghost use Rattle.text_forms.specs.sheets.Sheets.{Wrote, capped};
-ghost use Rattle.problem_texts.specs.Pages.{AreLengthsOf, AreTextsWithin, IsAppended};
-ghost use Rattle.stack_encoder.specs.Heads.{IsStackEncoding, all_actions, value_of};
-ghost use Rattle.stack_encoder.specs.StackTexts.{AreStackTextsWithin, AreStackSizes, actions_put};
+ghost use Rattle.problem_texts.specs.Pages.{AreTextsWithin, IsAppended};
+ghost use Rattle.stack_encoder.specs.Heads.{IsStackEncoding, actions_put, all_actions, value_of};
+ghost use Rattle.stack_encoder.specs.StackTexts.{AreStackTextsWithin, AreStackSizes};
 
 use crate::encoding::StackEncoding;
 use htn_base::{Memory, Text};
@@ -38,9 +38,14 @@ pub fn stack_sizes(alloc: Global, c: &Compiled, cells: u32) -> Result<Sizes, Mem
     ensures sized { IfOk result (AreStackSizes c.now cells) }
 {
     let encoding = StackEncoding::new(alloc, c, cells)?;
-    let sizes = lengths_of(alloc, c, &encoding);
+    let mut nothing = Text::new(alloc);
+    let domain = append_domain(alloc, c, &encoding, 0, &mut nothing)?;
+    let problem = append_problem(c, &encoding, 0, &mut nothing)?;
     drop(encoding);
-    sizes
+    Ok(Sizes {
+        domain: length_of(domain),
+        problem: length_of(problem),
+    })
 }
 
 /// What is printed of the whole head, and of one action at a time.
@@ -64,19 +69,6 @@ fn texts_within(
         }
         Ended::TooLong(length) => Ok(Printed::TooLong(length)),
     }
-}
-
-fn lengths_of(alloc: Global, c: &Compiled, encoding: &StackEncoding) -> Result<Sizes, Memory>
-    requires encoding { IsStackEncoding c.now encoding.now }
-    ensures { IfOk result (AreLengthsOf (value_of c.now encoding.now)) }
-{
-    let mut nothing = Text::new(alloc);
-    let domain = append_domain(alloc, c, encoding, 0, &mut nothing)?;
-    let problem = append_problem(c, encoding, 0, &mut nothing)?;
-    Ok(Sizes {
-        domain: length_of(domain),
-        problem: length_of(problem),
-    })
 }
 
 /// How many bytes were put within a limit of 0.

@@ -1,8 +1,6 @@
-ghost use Rattle.std.specs.Prelude.{IfOk, OnOk};
+ghost use Rattle.std.specs.Prelude.{IfOk};
 ghost use Rattle.slot_encoding.specs.slot_declarations.Frames.{HasSourceWords};
-ghost use Rattle.slot_encoding.specs.slot_declarations.Vocabulary.{Gains};
 ghost use Rattle.stack_encoding.specs.StackWords.{HasStackWords};
-ghost use Rattle.stack_encoder.specs.Words.{more_words};
 
 use htn_base::{Memory, NameTable};
 use plan_model::Compiled;
@@ -18,21 +16,9 @@ pub(crate) fn words_of(alloc: Global, c: &Compiled, cells: u32) -> Result<NameTa
     ensures source { IfOk result (HasSourceWords c.now.hddl.names) }
 {
     let mut names = vocabulary_of(alloc, c, cells)?;
-    match put_more(&mut names) {
-        Ok(()) => Ok(names),
-        Err(memory) => {
-            drop(names);
-            Err(memory)
-        }
-    }
-}
-
-fn put_more(names: &mut NameTable) -> Result<(), Memory>
-    ensures { OnOk result (Gains more_words names.old names.new) }
-{
     let words = MORE_WORDS;
     for word in words {
         names.intern(word)?;
     }
-    Ok(())
+    Ok(names)
 }

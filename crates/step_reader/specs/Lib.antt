@@ -1,2 +1,4 @@
 pub mod Arguments
+pub mod Cells
 pub mod Readings
+pub mod StackReadings

@@ -1,6 +1,7 @@
 ghost use Rattle.std.specs.Prelude.{◌≡◌, MatchOption};
 ghost use Rattle.ground_state.specs.Runs.{texts};
 ghost use Rattle.step_reader.specs.Arguments as spec;
+ghost use Rattle.step_reader.specs.Cells as cells;
 
 use plan_model::{Compiled, Param};
 use problem_index::PrintedName;
@@ -17,6 +18,19 @@ pub(crate) fn params_of(c: &Compiled, name: PrintedName) -> &[Param]
         PrintedName::Check(m) | PrintedName::Method(m) => match c.methods.get(m as usize) {
             Some(plan) => plan.schema.params.as_slice(),
             None => &[],
+        },
+    }
+}
+
+/// How many children come in the place of what a step of the printed action takes.
+pub(crate) fn children_at(c: &Compiled, name: PrintedName) -> usize
+    ensures { result ≡ cells.children_at c.now name }
+{
+    match name {
+        PrintedName::Action(_) | PrintedName::Check(_) => 0,
+        PrintedName::Method(m) => match c.methods.get(m as usize) {
+            Some(plan) => plan.schema.children.len(),
+            None => 0,
         },
     }
 }
