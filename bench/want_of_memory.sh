@@ -18,6 +18,7 @@ mkdir "$work/smallest" "$work/tail-recursive" "$work/free-variable"
 cp "$bench/../examples/first/domain.hddl" "$work/smallest/d"
 cp "$bench/../examples/first/problem.hddl" "$work/smallest/p"
 echo "(htn_start htn_s1) (htn_m_m htn_s1) (a htn_s1)" >"$work/smallest/plan"
+echo "(htn_start htn_s1) (htn_m_m htn_s1) (a htn_s0 htn_s1)" >"$work/smallest/stacked"
 printf '%s\n' '==>' '0 a' 'root 1' '1 t -> m 0' '<==' >"$work/smallest/hplan"
 
 cat >"$work/tail-recursive/d" <<'TEXT'
@@ -29,6 +30,7 @@ cat >"$work/tail-recursive/d" <<'TEXT'
 TEXT
 cp "$work/smallest/p" "$work/tail-recursive/p"
 echo "(htn_start htn_s1) (htn_m_m1 htn_s1 htn_s2) (a htn_s2) (htn_m_m0 htn_s1)" >"$work/tail-recursive/plan"
+echo "(htn_start htn_s1) (htn_m_m1 htn_s1 htn_s2) (a htn_s1 htn_s2) (htn_m_m0 htn_s0 htn_s1)" >"$work/tail-recursive/stacked"
 printf '%s\n' '==>' '0 a' 'root 1' '1 t -> m1 0 2' '2 t -> m0' '<==' >"$work/tail-recursive/hplan"
 
 cat >"$work/free-variable/d" <<'TEXT'
@@ -40,6 +42,7 @@ cat >"$work/free-variable/d" <<'TEXT'
 TEXT
 echo "(define (problem p) (:domain d) (:objects o1 o2 o3) (:htn :subtasks (t)) (:init (good o2) (good o3)))" >"$work/free-variable/p"
 echo "(htn_start htn_s1) (htn_m_m htn_s1 htn_s2 o2) (htn_c_m htn_s2 o2) (a htn_s1)" >"$work/free-variable/plan"
+echo "(htn_start htn_s1) (htn_m_m htn_s1 htn_s2 o2) (htn_c_m htn_s1 htn_s2 o2) (a htn_s0 htn_s1)" >"$work/free-variable/stacked"
 cp "$work/smallest/hplan" "$work/free-variable/hplan"
 
 failed=0
@@ -55,6 +58,7 @@ for example in smallest tail-recursive free-variable; do
     refused bound d p
     refused bound d p --level ground
     refused decode d p plan
+    refused decode d p stacked --form stack
     refused encode d p hplan
     refused encode d p hplan --form stack
     refused validate pd pp plan

@@ -2,7 +2,7 @@
 use crate::made::{MADE_DOMAIN, MADE_PROBLEM};
 use crate::texts::{
     DOMAIN, FIRST_DOMAIN, FIRST_PROBLEM, PLAN, PRINTED_DOMAIN, PRINTED_PROBLEM, PROBLEM,
-    PRUNED_DOMAIN, PRUNED_PROBLEM, STACK_DOMAIN, STACK_PROBLEM, TREE, TWO_DOMAIN,
+    PRUNED_DOMAIN, PRUNED_PROBLEM, STACK_DOMAIN, STACK_PLAN, STACK_PROBLEM, TREE, TWO_DOMAIN,
 };
 
 /// What a text is read as.
@@ -63,6 +63,12 @@ const TWO: Input = Input {
 const SPELLING: Input = Input {
     name: "plan",
     text: PLAN,
+    form: Form::Spelling,
+};
+
+const STACKED: Input = Input {
+    name: "plan",
+    text: STACK_PLAN,
     form: Form::Spelling,
 };
 
@@ -148,6 +154,12 @@ pub(crate) const COMMANDS: &[Command] = &[
         reads: &[D, P, HPLAN],
         writes: &[],
         tells: "; slots 1\n(htn_start htn_s1)\n(htn_m_m htn_s1)\n(a htn_s1)\n",
+    },
+    Command {
+        words: &["decode", "d.hddl", "p.hddl", "plan", "--form", "stack"],
+        reads: &[D, P, STACKED],
+        writes: &[],
+        tells: TREE,
     },
     Command {
         words: &["encode", "d.hddl", "p.hddl", "hplan", "--form", "stack"],

@@ -75,6 +75,8 @@ pub(crate) const STACK_PROBLEM: &str = concat!(
 
 pub(crate) const PLAN: &str = "(htn_start htn_s1)\n(htn_m_m htn_s1)\n(a htn_s1)\n";
 
+pub(crate) const STACK_PLAN: &str = "(htn_start htn_s1)\n(htn_m_m htn_s1)\n(a htn_s0 htn_s1)\n";
+
 pub(crate) const TREE: &str = "==>\n0 a\nroot 1\n1 t -> m 0\n<==\n";
 
 /// What is left of it, as HDDL.
