@@ -74,7 +74,7 @@ one_decode_said n o r s a b =
     let e : r.domain ∷ r.problem ∷ r.plan ∷ [] ≡ s.domain ∷ s.problem ∷ s.plan ∷ [] = sym a.files ∙ b.files in
     let numeral = a.numeral ∙ sym b.numeral in
     let level = one_some r.level s.level a.level b.level in
-    let form = a.form ∙ sym b.form in
+    let form = one_some r.form s.form a.form b.form in
     let checks = one_some r.checks s.checks a.checks b.checks in
     λ i.
     record {

@@ -208,19 +208,21 @@ module _ (options : List Word) where
 
   decode_of_three : (d p s : Word) → SaysTold SayDecode (d ∷ p ∷ s ∷ []) options
   decode_of_three d p s =
-      go (both (slots_told (slots_said options)) computed_told) (value_told (level_said options)) (value_told (checks_said options))
+      go (both (slots_told (slots_said options)) computed_told) (value_told (level_said options)) (value_told (form_said options)) (value_told (checks_said options))
     where
       go : Or_not (AreSlots (slots_said options) × IsComputed options)
           → ((v : _) × (level_said options ≡ Some v)) ⊎ ((v : _) → level_said options ≡ Some v → ⊥)
+          → ((v : _) × (form_said options ≡ Some v)) ⊎ ((v : _) → form_said options ≡ Some v → ⊥)
           → ((v : _) × (checks_said options ≡ Some v)) ⊎ ((v : _) → checks_said options ≡ Some v → ⊥)
           → SaysTold SayDecode (d ∷ p ∷ s ∷ []) options
-      go (inl m) (inl l) (inl c) = inl (
-        record { domain = d; problem = p; plan = s; numeral = slots_said options; level = l.0; form = Slots; checks = c.0 },
-        record { files = refl; numeral = refl; slots = m.0; level = l.1; computed = m.1; form = refl; checks = c.1 },
+      go (inl m) (inl l) (inl k) (inl c) = inl (
+        record { domain = d; problem = p; plan = s; numeral = slots_said options; level = l.0; form = k.0; checks = c.0 },
+        record { files = refl; numeral = refl; slots = m.0; level = l.1; computed = m.1; form = k.1; checks = c.1 },
       )
-      go (inr m) l c = inr (λ r a. m (subst AreSlots a.numeral a.slots, a.computed))
-      go (inl m) (inr n) c = inr (λ r a. n r.level a.level)
-      go (inl m) (inl l) (inr n) = inr (λ r a. n r.checks a.checks)
+      go (inr m) l k c = inr (λ r a. m (subst AreSlots a.numeral a.slots, a.computed))
+      go (inl m) (inr n) k c = inr (λ r a. n r.level a.level)
+      go (inl m) (inl l) (inr n) c = inr (λ r a. n r.form a.form)
+      go (inl m) (inl l) (inl k) (inr n) = inr (λ r a. n r.checks a.checks)
 
   not_files : (names : List Word) → (length names ≡ 3 → ⊥) → (r : DecodeRequest) → SayDecode names options r → ⊥
   not_files names l r a = l (ap length a.files)

@@ -24,7 +24,7 @@ abbrev pub bound_form : Row
 bound_form = record { command = codes "bound"; names = 2; options = codes "--level" ∷ codes "--checks" ∷ [] }
 
 abbrev pub decode_form : Row
-decode_form = record { command = codes "decode"; names = 3; options = codes "--bound" ∷ codes "--level" ∷ codes "--checks" ∷ [] }
+decode_form = record { command = codes "decode"; names = 3; options = codes "--bound" ∷ codes "--level" ∷ codes "--checks" ∷ codes "--form" ∷ [] }
 
 abbrev pub encode_form : Row
 encode_form = record { command = codes "encode"; names = 3; options = codes "--bound" ∷ codes "--checks" ∷ codes "--form" ∷ [] }

@@ -3,9 +3,8 @@ use Rattle.std.specs.Prelude.{ℕ, ◌≡◌, ◌≢◌, List, [], ◌∷◌, Op
 use Rattle.std.specs.Str.Parse.{digits_value}
 use Rattle.plan_model.specs.declared.options.Style.{Style}
 use Rattle.plan_model.specs.declared.options.Checks.{Checks}
-use Rattle.plan_model.specs.declared.options.Slots as rule
+use Rattle.plan_model.specs.declared.options.Slots.{Slots}
 use Rattle.command_words.specs.declared.form.PrintedForm.{PrintedForm}
-use Rattle.command_words.specs.declared.form.PrintedForm.TheVariants.{Slots}
 use Rattle.command_words.specs.declared.level.Level.{Level}
 use Rattle.command_words.specs.declared.asking.Translation.{Translation}
 use Rattle.command_words.specs.declared.asking.Bounding.{Bounding}
@@ -32,7 +31,7 @@ pub record TranslationRequest : Type 0 where
   pub form : PrintedForm
   pub style : Style
   pub checks : Checks
-  pub rule : rule.Slots
+  pub rule : Slots
 
 -- a bound that is asked for: the files that are read, its level, and how preconditions of methods are checked
 pub record BoundRequest : Type 0 where
@@ -117,7 +116,7 @@ pub record SayDecode (names options : List Word) (request : DecodeRequest) : Typ
   pub slots : AreSlots request.numeral
   pub level : level_said options ≡ Some request.level
   pub computed : IsComputed options
-  pub form : request.form ≡ Slots
+  pub form : form_said options ≡ Some request.form
   pub checks : checks_said options ≡ Some request.checks
 
 pub record SayEncode (names options : List Word) (request : EncodeRequest) : Type 0 where

@@ -30,7 +30,7 @@ pub(crate) const BOUND: Form<'static> = Form {
 pub(crate) const DECODING: Form<'static> = Form {
     command: "decode",
     names: 3,
-    options: &["--bound", "--level", "--checks"],
+    options: &["--bound", "--level", "--checks", "--form"],
 };
 
 pub(crate) const ENCODING: Form<'static> = Form {

@@ -8,7 +8,6 @@ use crate::asking::{
 };
 use crate::bounds::{count_of, is_count};
 use crate::commands::Command;
-use crate::form::PrintedForm;
 use crate::forms::{BOUND, DECODING, ENCODING, MAKING, PRUNING, TRANSLATION, VALIDATION, parts_of};
 use crate::names::{Named, are_apart};
 use crate::options::{are_slots, checks, form, is_computed, is_of_form, level, rule, slots, style};
@@ -19,7 +18,7 @@ use crate::options::{are_slots, checks, form, is_computed, is_of_form, level, ru
 /// The forms are `translate D P OD OP` with the options `--bound N` or `--level lifted|ground`, `--style adl|flat`,
 /// `--checks leaf|atonce`, `--slots any|first` and `--form slots|stack`, where OD and OP differ and neither is D or P, and a style and
 /// `--slots` are given of form `slots` alone; `bound D P` with the options `--level lifted|ground` and `--checks leaf|atonce`,
-/// `decode D P PLAN` with the options `--bound N` or `--level lifted|ground`, and `--checks leaf|atonce`,
+/// `decode D P PLAN` with the options `--bound N` or `--level lifted|ground`, `--checks leaf|atonce` and `--form slots|stack`,
 /// `encode D P HPLAN` with the options `--bound N`, `--checks leaf|atonce` and `--form slots|stack`, `validate PD PP PLAN`,
 /// `make K OD OP`, where OD and OP differ, and `prune D P OD OP`, whose names are apart as those of `translate`. Options come in any
 /// order and may be left out: the level is then `lifted`, the form `slots`, the style `adl`, the checks are `leaf`, and the slots `any`.
@@ -204,7 +203,7 @@ fn decoding<'a>(names: &'a [String], options: &'a [String]) -> Option<Decoding<'
         plan: plan.as_str(),
         numeral,
         level: level(options)?,
-        form: PrintedForm::Slots,
+        form: form(options)?,
         checks: checks(options)?,
     })
 }

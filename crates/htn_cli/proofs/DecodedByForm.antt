@@ -26,7 +26,7 @@ use Rattle.decode_answers.specs.DecodeLaws.{IsDecodable, EachIsDecodedOnce, Each
 use Rattle.stack_answers.specs.StackDecodeLaws.{IsStackDecodable, EachIsStackDecodedOnce, EachIsStackDecodedSomehow, ValuesAreStackDecodedAlike}
 use Rattle.tree_texts.specs.declared.text.TreeText.{TreeText}
 use Rattle.tree_texts.specs.declared.text.TreeText.TheVariants.{Whole, TooLong, Fails}
-use Rattle.tree_texts.specs.TreeTexts.{IsTreeText}
+use Rattle.tree_texts.specs.TreeTexts.{IsTreeText, IsStackText}
 use Rattle.command_words.specs.declared.form.PrintedForm.{PrintedForm}
 use Rattle.command_words.specs.declared.form.PrintedForm.TheVariants.{Slots, Stack}
 use Rattle.htn_cli.specs.PrintedForms.{IsOrderedFor, SpellingAs}
@@ -41,6 +41,11 @@ pub tree_text_is : (c : Compiled) (b : ℕ) (steps : List GroundAction) (most : 
 tree_text_is c b steps most (Whole text) is = is
 tree_text_is c b steps most (TooLong n) is = is
 tree_text_is c b steps most (Fails step why) is = is
+
+pub stack_text_is : (c : Compiled) (b : ℕ) (steps : List GroundAction) (most : ℕ) (text : TreeText) → IsStackText c b steps most text → IsTreeTextAs Stack c b steps most text
+stack_text_is c b steps most (Whole text) is = is
+stack_text_is c b steps most (TooLong n) is = is
+stack_text_is c b steps most (Fails step why) is = is
 
 module _ (form : PrintedForm) (c : Compiled) (b : ℕ) (steps : List GroundAction) where
   -- they show one plan, or fail at one step for one cause, and not both

@@ -14,7 +14,7 @@ use Rattle.text_values.specs.PddlValues as pddl
 use Rattle.hddl_reader.specs.declared.sections.Language.TheVariants as language
 use Rattle.bound_calc.specs.NoBound.{NamesCycle}
 use Rattle.command_words.specs.declared.form.PrintedForm.{PrintedForm}
-use Rattle.command_words.specs.declared.form.PrintedForm.TheVariants.{Slots, Stack}
+use Rattle.command_words.specs.declared.form.PrintedForm.TheVariants.{Stack}
 use Rattle.htn_cli.specs.PrintedForms.{IsOrderedFor, NamesUnordered, unordered_word}
 use Rattle.command_words.specs.Names.{Word, AreApart}
 use Rattle.command_words.specs.Bounds.{IsNumeral, IsCount}
@@ -261,7 +261,7 @@ IsRefusalOf place code _ = ⊥
 -- what is asked for keeps the rules of words: a numeral is one, a count is one, and outputs are apart
 abbrev pub IsWellAsked : Asked → Type 0
 IsWellAsked (asked.Translation t) = IfSome (translation_of t).numeral IsNumeral × AreApart (translation_of t).names
-IsWellAsked (asked.Decoding d) = IfSome (decode_of d).numeral IsNumeral × (d.form ≡ Slots)
+IsWellAsked (asked.Decoding d) = IfSome (decode_of d).numeral IsNumeral
 IsWellAsked (asked.Encoding e) = IfSome (encode_of e).numeral IsNumeral
 IsWellAsked (asked.Making m) = IsCount (make_of m).numeral × ((make_of m).printed_domain ≢ (make_of m).printed_problem)
 IsWellAsked (asked.Pruning p) = AreApart (prune_of p).names

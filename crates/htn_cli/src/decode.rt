@@ -1,4 +1,4 @@
-ghost use Rattle.std.specs.Prelude.{◌≡◌, ◌≤◌, ◌∷◌, [], length, IfSome, IfOk, IfErr};
+ghost use Rattle.std.specs.Prelude.{◌≤◌, ◌∷◌, [], length, IfSome, IfOk, IfErr};
 ghost use Rattle.htn_base.specs.Limits.{longest_input, longest_output, most_slots, most_steps};
 ghost use Rattle.outside_io.specs.Seen.{Seen};
 ghost use Rattle.command_words.specs.Bounds.{IsNumeral};
@@ -27,7 +27,7 @@ use plan_model::{Compiled, Slots};
 use plan_text::Plan;
 use std::alloc::Global;
 use text_forms::sexpr_text::ReadError;
-use tree_texts::{TreeText, tree_text};
+use tree_texts::{TreeText, stack_text, tree_text};
 
 /// The number of the plan's file among the three that are read.
 const PLAN_FILE: u8 = 2;
@@ -39,7 +39,6 @@ pub(crate) fn decode<'a, F: Files>(
     files: &mut F,
 ) -> Result<Output<'a>, Refusal<'a>>
     requires numeral { IfSome (decode_of asked.now).numeral IsNumeral }
-    requires slots { asked.now.form ≡ PrintedForm.Slots }
     ensures given { IfOk result (Seen F.state
         (GivesOutput (to_decode (decode_of asked.now))) files.old files.new) }
     ensures refused { IfErr result (Seen F.state
@@ -82,7 +81,6 @@ fn decoded<'a>(
     requires problem_short { length problem.now ≤ longest_input }
     requires plan_short { length plan.now ≤ longest_input }
     requires given { IsGiven most_slots (decode_of asked.now).numeral given }
-    requires slots { asked.now.form ≡ PrintedForm.Slots }
     ensures told { IfOk result (λ text. GivesTree
         (decode_of asked.now) domain.now problem.now plan.now (told_alone text)) }
     ensures short { IfOk result (λ text. length text ≤ longest_output) }
@@ -105,7 +103,6 @@ fn told_of<'a>(
 ) -> Result<Text, Refusal<'a>>
     requires soundly { IsSoundlyCompiled compiled.now }
     requires given { IfSome given IsInRange }
-    requires slots { asked.now.form ≡ PrintedForm.Slots }
     requires plan_short { length plan.now ≤ longest_input }
     ensures told { IfOk result (IsToldFor asked.now.form asked.now.level compiled.now given plan.now) }
     ensures refused { IfErr result (StopsTelling asked.now.form asked.now.level compiled.now given
@@ -138,7 +135,6 @@ fn text_for<'a>(
 ) -> Result<Text, Refusal<'a>>
     requires soundly { IsSoundlyCompiled compiled.now }
     requires given { IfSome given IsInRange }
-    requires slots { asked.now.form ≡ PrintedForm.Slots }
     ensures told { IfOk result (IsTreeFor asked.now.form asked.now.level compiled.now given plan.now) }
     ensures refused { IfErr result (StopsTree asked.now.form asked.now.level compiled.now given plan.now) }
 {
@@ -162,7 +158,6 @@ fn text_with<'a>(
     requires ordered { IsOrderedFor form compiled.now }
     requires range { IsInRange slots }
     requires few { length plan.now ≤ most_steps }
-    requires slots { form ≡ PrintedForm.Slots }
     ensures told { IfOk result (HaveShortText form compiled.now slots plan.now) }
     ensures refused { IfErr result (StopsTreeWith form compiled.now slots plan.now) }
 {
@@ -188,12 +183,10 @@ fn tree_text_as(
     requires ordered { IsOrderedFor form compiled.now }
     requires range { IsInRange slots }
     requires few { length plan.now ≤ most_steps }
-    requires slots { form ≡ PrintedForm.Slots }
     ensures text { IfOk result (IsTreeTextAs form compiled.now slots plan.now longest_output) }
 {
     match form {
         PrintedForm::Slots => tree_text(alloc, compiled, slots, plan, LONGEST_OUTPUT),
-        // No words of `decode` ask for a stack.
-        PrintedForm::Stack => unreachable!(),
+        PrintedForm::Stack => stack_text(alloc, compiled, slots, plan, LONGEST_OUTPUT),
     }
 }

@@ -12,7 +12,7 @@ use Rattle.htn_cli.proofs.program.act.Goals as goal
 well_asked : (words : List Word) (a : Asked) → Asks words (request_of a) → IsWellAsked a
 well_asked words (asked.Translation t) asks = (numeral_is words (translation_of t) asks, asks.3.apart)
 well_asked words (asked.Bound b) asks = tt
-well_asked words (asked.Decoding d) asks = (decode_numeral_is words (decode_of d) asks, asks.3.form)
+well_asked words (asked.Decoding d) asks = decode_numeral_is words (decode_of d) asks
 well_asked words (asked.Encoding e) asks = encode_numeral_is words (encode_of e) asks
 well_asked words (asked.Validation v) asks = tt
 well_asked words (asked.Making m) asks = (asks.3.count, asks.3.apart)
