@@ -9,3 +9,5 @@ pub mod Allowed
 pub mod Guarded
 pub mod Obstacles
 pub mod NewSlots
+pub mod AtTip
+pub mod TipSteps

@@ -2,6 +2,9 @@ ghost use Rattle.std.specs.Prelude.{◌≡◌, ◌≤◌, ◌↔◌, IsTrue, [],
 ghost use Rattle.htn_base.specs.Limits.{most_slots, most_steps};
 ghost use Rattle.plan_texts.specs.SoundlyCompiled.{IsSoundlyCompiled};
 ghost use Rattle.ground_state.specs.Runs.{words_step};
+ghost use Rattle.plan_model.specs.plan_meaning.Network.{network};
+ghost use Rattle.stack_machine.specs.Stack.{IsTotal};
+ghost use Rattle.tree_decoder.specs.AtTip as tip;
 ghost use Rattle.tree_decoder.specs.Decoding as spec;
 ghost use Rattle.tree_decoder.specs.Taking.{IsRead, TakesAct};
 
@@ -15,7 +18,7 @@ use kept_front::{Front, Later};
 use plan_model::{Compiled, GroundAction};
 use problem_index::{PrintedIndex, PrintedName};
 use std::alloc::Global;
-use step_reader::{Read, read};
+use step_reader::{Read, StackRead, read, read_at_cells};
 use tree_core::{Growth, grow};
 
 /// A decoder of steps over a compiled problem with so many slots: what is kept of the front that the steps taken spell, and the
@@ -51,6 +54,7 @@ impl<'c> Decoder<'c> {
         requires some { 1 ≤ slots }
         requires few { slots ≤ most_slots }
         ensures fresh { IfOk result (spec.HasTaken c.now slots []) }
+        ensures fresh_stack { IfOk result (tip.HasTakenAtTip c.now slots []) }
     {
         let printed = PrintedIndex::new(alloc, c)?;
         let later = Later::all(alloc, c)?;
@@ -100,7 +104,43 @@ impl<'c> Decoder<'c> {
         }
     }
 
-    /// The same, of a ground action. `words`: room for where its arguments stand.
+    /// Takes the step of a stack of these words, where the methods are totally ordered: the slots are its cells, and the tip is the
+    /// one task that waits for none. Else it says the first cause for which it can't be taken. After `Memory` the decoder is of no
+    /// use; more than 1,000,000 steps want memory.
+    pub fn take_at_tip(
+        &mut self,
+        alloc: Global,
+        name: &[u8],
+        args: &[&[u8]],
+    ) -> Result<Option<Why>, Memory>
+        requires ready { spec.IsReady self.old }
+        requires total { IsTotal (network self.old.c.now) }
+        ensures taken { IfOk result (tip.TakesAtTip (words_step name.now args.now) self.old self.new) }
+    {
+        let world = self
+            .printed
+            .index()
+            .world(&self.c.hddl.types, &self.c.hddl.objects);
+        let found = read_at_cells(
+            &self.printed,
+            &world,
+            self.c,
+            self.slots,
+            name,
+            args,
+            &mut self.scratch.cells,
+            &mut self.scratch.new_slots,
+            &mut self.scratch.env,
+        )?;
+        match found {
+            StackRead::Unnamed => Ok(Some(Why::UnknownAction)),
+            StackRead::Unread => Ok(Some(Why::Arguments)),
+            StackRead::Apart => Ok(Some(Why::SlotHolds)),
+            StackRead::Act { name, cell } => Ok(at_tip(self.take_act(alloc, name, cell)?)),
+        }
+    }
+
+    /// The same as `take`, of a ground action. `words`: room for where its arguments stand.
     pub(crate) fn take_action<'s>(
         &mut self,
         alloc: Global,
@@ -170,6 +210,8 @@ impl<'c> Decoder<'c> {
         requires ready { spec.IsReady self }
         ensures decoded { IfOk result (spec.Finishes self.entry) }
         ensures refused { IfErr result (spec.Leaves self.entry) }
+        ensures decoded_stack { IfOk result (tip.FinishesAtTip self.entry) }
+        ensures refused_stack { IfErr result (tip.LeavesAtTip self.entry) }
     {
         let step = self.front.growths().len() as u32 + 1;
         if let Some(why) = self.left() {
@@ -222,6 +264,16 @@ impl<'c> Decoder<'c> {
         drop(state);
         drop(scratch);
         front
+    }
+}
+
+/// The cause of a stack: a task that waits is none that its tip holds.
+fn at_tip(found: Option<Why>) -> Option<Why>
+    ensures { result ≡ tip.at_tip found }
+{
+    match found {
+        Some(Why::Waiting) => Some(Why::SlotHolds),
+        other => other,
     }
 }
 

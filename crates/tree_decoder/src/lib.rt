@@ -3,7 +3,7 @@
 //! Stands on `kept_front` for what is kept of the front, on `step_reader` for the words of steps, on `ground_state` for the state,
 //! on `tree_core` for the tree, and on the laws of `decoding`. The contract used above: `Decoder::take` takes a step of a plan or
 //! says the first cause for which it can't be taken, so that no plan need be held, and `Decoder::finish` gives the tree with its
-//! schedule and slots, or says what is left; `decode` does both for a list.
+//! schedule and slots, or says what is left; `decode` does both for a list. `Decoder::take_at_tip` takes a step of a stack.
 #![tactic(auto)]
 
 mod allowing;

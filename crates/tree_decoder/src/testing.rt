@@ -16,8 +16,10 @@ use std::alloc::Global;
 use std::collections::BTreeSet;
 use tree_core::Label;
 
-/// What is noted of the step that is read: its new slots, its objects in force, and the objects of what it processes.
+/// What is noted of the step that is read: the cells that it names, where it is one of a stack, its new slots, its objects in
+/// force, and the objects of what it processes.
 pub(crate) struct Scratch {
+    pub(crate) cells: Vec<u32>,
     pub(crate) new_slots: Vec<u32>,
     pub(crate) env: Env,
     pub(crate) task: Vec<u32>,
@@ -26,6 +28,7 @@ pub(crate) struct Scratch {
 impl Drop for Scratch {
     fn drop(self) {
         let Scratch {
+            cells: _,
             new_slots: _,
             env: _,
             task: _,
@@ -41,6 +44,7 @@ impl Scratch {
         let need = Need::of_compiled(c)?;
         let env = Env::new(alloc, &List::new(alloc), need.depth, need.arity)?;
         Ok(Scratch {
+            cells: Vec::new(alloc),
             new_slots: Vec::new(alloc),
             env,
             task: Vec::new(alloc),

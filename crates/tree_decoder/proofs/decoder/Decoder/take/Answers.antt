@@ -40,7 +40,7 @@ returns-in-Unnamed c =
     let old = c.args.self.now in
     let step = words_step c.args.name.now c.args.args.now in
     let none = subst (λ r. IsReading old.c.now old.slots step r c.read.new.new.items (frame c.read.new.env).objects) c.in-Unnamed.is c.in_ok-found.ensures.read in
-    let noted : Scratch = record { new_slots = c.read.new.new; env = c.read.new.env; task = old.scratch.task } in
+    let noted : Scratch = record { cells = old.scratch.cells; new_slots = c.read.new.new; env = c.read.new.env; task = old.scratch.task } in
     record { taken = unnamed old (noting old noted) c.requires.ready step none }
 
 pub returns-in-Unread : goal.returns-in-Unread
@@ -48,14 +48,14 @@ returns-in-Unread c =
     let old = c.args.self.now in
     let step = words_step c.args.name.now c.args.args.now in
     let none = subst (λ r. IsReading old.c.now old.slots step r c.read.new.new.items (frame c.read.new.env).objects) c.in-Unread.is c.in_ok-found.ensures.read in
-    let noted : Scratch = record { new_slots = c.read.new.new; env = c.read.new.env; task = old.scratch.task } in
+    let noted : Scratch = record { cells = old.scratch.cells; new_slots = c.read.new.new; env = c.read.new.env; task = old.scratch.task } in
     record { taken = unread old (noting old noted) c.requires.ready step none.0 none.1 }
 
 pub take_act-requires : goal.take_act-requires
 take_act-requires c =
     let old = c.args.self.now in
     let step = words_step c.args.name.now c.args.args.now in
-    let noted : Scratch = record { new_slots = c.read.new.new; env = c.read.new.env; task = old.scratch.task } in
+    let noted : Scratch = record { cells = old.scratch.cells; new_slots = c.read.new.new; env = c.read.new.env; task = old.scratch.task } in
     record {
       ready = ready_noting old noted c.requires.ready c.read.ensures.room;
       read = record {
@@ -69,7 +69,7 @@ pub returns-in-Act : goal.returns-in-Act
 returns-in-Act c =
     let old = c.args.self.now in
     let step = words_step c.args.name.now c.args.args.now in
-    let noted : Scratch = record { new_slots = c.read.new.new; env = c.read.new.env; task = old.scratch.task } in
+    let noted : Scratch = record { cells = old.scratch.cells; new_slots = c.read.new.new; env = c.read.new.env; task = old.scratch.task } in
     let ready = ready_noting old noted c.requires.ready c.read.ensures.room in
     let read = subst (λ r. IsReading old.c.now old.slots step r c.read.new.new.items (frame c.read.new.env).objects) c.in-Act.is c.in_ok-found.ensures.read in
     record {

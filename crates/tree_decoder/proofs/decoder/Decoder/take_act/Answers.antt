@@ -82,7 +82,7 @@ returns c =
     let noted = c.in_ok-why.ensures.noted in
     let a = act_in p c.args.name c.args.slot old.scratch in
     let o = subst (IsObstacle p a old.front old.state) c.in_default.is c.in_ok-why.ensures.obstacle in
-    let scratch : Scratch = record { new_slots = c.obstacle.new.scratch.new_slots; env = c.apply.new.env; task = c.obstacle.new.scratch.task } in
+    let scratch : Scratch = record { cells = c.obstacle.new.scratch.cells; new_slots = c.obstacle.new.scratch.new_slots; env = c.apply.new.env; task = c.obstacle.new.scratch.task } in
     let grown = subst (λ z. IsGrownBy p z old.front c.grow_by.new.front) (same_act p c.args.name c.args.slot old.scratch c.obstacle.new.scratch noted) c.in_ok-grow_by.ensures.grown in
     let after = subst (λ (f : Frame). IsAfter p c.args.name f.objects old.state c.apply.new.state) noted.objects c.in_ok-apply.ensures.after in
     let same = c.apply.ensures.kept ∙ noted.objects in
