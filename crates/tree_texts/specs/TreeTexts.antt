@@ -6,6 +6,8 @@ use Rattle.text_forms.specs.sheets.Sheets.{capped}
 use Rattle.plan_model.specs.declared.steps.GroundAction.{GroundAction}
 use Rattle.plan_model.specs.declared.values.Compiled.{Compiled}
 use Rattle.decoding.specs.PrintedSteps.{FailsAt}
+use Rattle.stack_decoding.specs.StackSteps as stacks
+use Rattle.stack_decoding.specs.StackShown.{HaveStackText}
 use Rattle.tree_core.specs.declared.growth.Scheduled.{Scheduled}
 use Rattle.text_forms.specs.declared.sheets.sheet.Ended.{Ended}
 use Rattle.plan_text.specs.Printing.{IsPutWithin}
@@ -22,6 +24,12 @@ module _ (c : Compiled) (b : ℕ) (steps : List GroundAction) where
   IsTreeText most (Whole text) = HaveText c b steps text × (length text ≤ most)
   IsTreeText most (TooLong n) = (text : List ℕ) × HaveText c b steps text × (n ≡ capped (length text)) × (most < n)
   IsTreeText most (Fails step why) = FailsAt c b steps step why
+
+  -- the same of the steps of a stack with so many cells
+  abbrev pub IsStackText : ℕ → TreeText → Type 0
+  IsStackText most (Whole text) = HaveStackText c b steps text × (length text ≤ most)
+  IsStackText most (TooLong n) = (text : List ℕ) × HaveStackText c b steps text × (n ≡ capped (length text)) × (most < n)
+  IsStackText most (Fails step why) = stacks.FailsAt c b steps step why
 
 -- of the plan that a run shows
 abbrev pub IsTextOf : Compiled → Scheduled → ℕ → TreeText → Type 0

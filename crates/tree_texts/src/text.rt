@@ -1,6 +1,9 @@
 ghost use Rattle.std.specs.Prelude.{◌≡◌, ◌≤◌, [], length, IfOk, IfErr};
 ghost use Rattle.htn_base.specs.Limits.{most_slots, most_steps};
+ghost use Rattle.plan_model.specs.plan_meaning.Network.{network};
 ghost use Rattle.plan_texts.specs.SoundlyCompiled.{IsSoundlyCompiled};
+ghost use Rattle.stack_machine.specs.Stack.{IsTotal};
+ghost use Rattle.tree_decoder.specs.AtTip.{IsStackDecoded, IsStackRefused};
 ghost use Rattle.tree_decoder.specs.Decoded.{IsDecoded, IsRefused};
 ghost use Rattle.tree_texts.specs.TreeTexts as spec;
 
@@ -46,6 +49,28 @@ pub fn tree_text(
     }
 }
 
+/// What the steps of a stack with so many cells come to, where the methods are totally ordered.
+pub fn stack_text(
+    alloc: Global,
+    c: &Compiled,
+    cells: u32,
+    plan: &Plan<'_>,
+    most: u64,
+) -> Result<TreeText, Memory>
+    requires soundly { IsSoundlyCompiled c.now }
+    requires total { IsTotal (network c.now) }
+    requires some { 1 ≤ cells }
+    requires few_cells { cells ≤ most_slots }
+    requires few { length plan.now ≤ most_steps }
+    ensures text { IfOk result (spec.IsStackText c.now cells plan.now most) }
+{
+    match stack_decoded(alloc, c, cells, plan) {
+        Ok(decoded) => text_of(alloc, c, &decoded.run, most),
+        Err(DecodeError::NotAPlan { step, why }) => Ok(TreeText::Fails { step, why }),
+        Err(DecodeError::Memory) => Err(Memory),
+    }
+}
+
 /// What the steps are decoded to.
 fn decoded(alloc: Global, c: &Compiled, slots: u32, plan: &Plan<'_>) -> Result<Decoded, DecodeError>
     requires soundly { IsSoundlyCompiled c.now }
@@ -61,6 +86,34 @@ fn decoded(alloc: Global, c: &Compiled, slots: u32, plan: &Plan<'_>) -> Result<D
     let mut number = 1;
     while steps.next(&mut step)? {
         if let Some(why) = decoder.take(alloc, step.name(), step.args())? {
+            return Err(DecodeError::NotAPlan { step: number, why });
+        }
+        number += 1;
+    }
+    decoder.finish(alloc)
+}
+
+/// What the steps of a stack are decoded to.
+fn stack_decoded(
+    alloc: Global,
+    c: &Compiled,
+    cells: u32,
+    plan: &Plan<'_>,
+) -> Result<Decoded, DecodeError>
+    requires soundly { IsSoundlyCompiled c.now }
+    requires total { IsTotal (network c.now) }
+    requires some { 1 ≤ cells }
+    requires few_cells { cells ≤ most_slots }
+    requires few { length plan.now ≤ most_steps }
+    ensures decoded { IfOk result (IsStackDecoded c.now cells plan.now) }
+    ensures refused { IfErr result (IsStackRefused c.now cells plan.now) }
+{
+    let mut decoder = Decoder::new(alloc, c, cells)?;
+    let mut step = Step::new(alloc);
+    let mut steps = plan.steps();
+    let mut number = 1;
+    while steps.next(&mut step)? {
+        if let Some(why) = decoder.take_at_tip(alloc, step.name(), step.args())? {
             return Err(DecodeError::NotAPlan { step: number, why });
         }
         number += 1;

@@ -1,4 +1,5 @@
 use Rattle.std.proofs.Common.{length}
+use Rattle.tree_decoder.specs.Decoding.{HasTaken}
 use Rattle.tree_texts.proofs.StepsTaken.{IsDecodedTo}
 use Rattle.tree_texts.proofs.text.decoded.Given as goal
 
@@ -6,4 +7,4 @@ abbrev pub decreases-loop-step : goal.decreases-loop-step
 decreases-loop-step l = length l.steps
 
 abbrev pub invariant-loop-step : goal.invariant-loop-step
-invariant-loop-step l = IsDecodedTo l.c l.slots l.plan l.steps l.number l.decoder
+invariant-loop-step l = IsDecodedTo (HasTaken l.c l.slots) l.plan l.steps l.number l.decoder
