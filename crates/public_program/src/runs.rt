@@ -7,6 +7,7 @@ use std::alloc::Global;
 use std::process::Abort;
 
 mod bounds;
+mod circles;
 mod colours;
 mod decodings;
 mod prunings;
