@@ -165,6 +165,22 @@ counted "translate of made 200, ordered, a stack of 204 cells" translate "$trans
 counted "bound over what is reached, 300,000 ground methods" bound "$transport/domain.hddl" "$work/ring" --level ground
 
 {
+    echo "(define (domain counter) (:predicates (val ?x) (next ?x ?y)) (:task count :parameters ())"
+    echo " (:method up :parameters (?x ?y) :task (count) :precondition (and (val ?x) (next ?x ?y)) :ordered-subtasks (and (inc ?x ?y) (count)))"
+    echo " (:method stop :parameters () :task (count) :subtasks ())"
+    echo " (:action inc :parameters (?x ?y) :precondition (and (val ?x) (next ?x ?y)) :effect (and (not (val ?x)) (val ?y))))"
+} >"$work/counter"
+# what is reached grows by one number at a time, and so must the work
+for numbers in 2000 4000; do
+    {
+        echo "(define (problem c) (:domain counter) (:objects $(seq -f 'n%g' -s ' ' 0 $numbers)) (:htn :subtasks (count)) (:init (val n0)"
+        for ((k = 0; k < numbers; k++)); do echo "  (next n$k n$((k + 1)))"; done
+        echo " ))"
+    } >"$work/numbers"
+    counted "bound over what is reached, a counter to $numbers" bound "$work/counter" "$work/numbers" --level ground
+done
+
+{
     echo "(define (domain d) (:predicates (p) (q))"
     for ((k = 0; k < 2000; k++)); do
         echo " (:task t$k :parameters ()) (:action a$k :parameters () :precondition (p) :effect (p))"
