@@ -4,14 +4,14 @@
 # 2,000 packages at 4,096 slots; 500 methods of 40 subtasks; 140,000 facts; and `validate` of 50,000 steps (bench/validate.sh has
 # the same with a million); `decode` of 25,000 uses of a tail-recursive method, and of the deliveries of 200 packages, and `encode` of
 # the trees of both; `make 200`, and of its problem `translate` with 1,024 first-free slots, and, with its deliveries one after the other,
-# as a stack of 65,536 cells and of as many as its bound; `bound --level ground` of 100 packages, 10 vehicles and 30 places on a ring; and
-# `prune` of 2,000 tasks with four methods each, half of which are kept (at most 160 million are asked for). Wants ./htn, as
+# as a stack of 65,536 cells and of as many as its bound; `bound --level ground` of 100 packages, 10 vehicles and 30 places on a ring,
+# and of a counter; and `prune` of 2,000 tasks with four methods each, half of which are kept (at most 160 million are asked for). Wants ./htn, as
 # examples/transport/run leaves it, and valgrind. A line each: the instructions.
 #
-# Counted, in the order of the cases, millions: 19.7, 97.7, 754.8, 407.6, 303.0, 285.5, 215.4, `decode` 314.4, 24.5, `encode` 389.5, 34.9
-# (470.6 and 41.1 before steps were put on the sheet straight from slots and words), `make 200` 31.2 (37.8 before trees were joined
-# without a map), `translate` of its problem with 1,024 first-free slots 130.2, and `prune` 127.8; `decode` and `encode` were counted
-# before some of that too.
+# Counted, in the order of the cases, millions: 19.7, 99.0, 757.1, 419.6, 305.1, 284.7, 215.3, 230.9, 22.2, 279.3, 28.1, 31.2, 129.2,
+# 115.5, 6.0, 3622.3, 62.8, 125.6, 127.8.
+# Of what is asked two are missed by less than half: a stack of 65,536 cells (80), whose words are made, looked up and printed one by
+# one, and the ring (2,700). `make 200` is asked for at 15.
 set -euo pipefail
 top=$(cd "$(dirname "$0")/.." && pwd)
 work=$(mktemp -d)
