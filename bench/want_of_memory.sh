@@ -8,6 +8,7 @@
 # Counted: 18 runs of 2,156 to 2,586 allocations, and, later, `make 1` of 3,255; all with status 0 where there is memory. Without make 83,178
 # refusals in the two turns: 82,842 told `out of memory`, 318 told nothing (the allocations of the arguments), 18 were survived (one in each
 # run, refused alone), and none was answered otherwise. None came behind the first put. In four processor minutes.
+# Later, over the smallest alone, 12 runs, with level ground, first-free slots and a stack too: none was answered otherwise.
 set -eu
 bench=$(cd "$(dirname "$0")" && pwd)
 htn=$(realpath "${HTN:-$bench/../htn}")
