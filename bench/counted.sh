@@ -10,8 +10,8 @@
 #
 # Counted, in the order of the cases, millions: 19.7, 99.0, 757.1, 419.6, 305.1, 284.7, 215.3, 230.9, 22.2, 279.3, 28.1, 31.2, 129.2,
 # 115.5, 6.0, 3622.3, 62.8, 125.6, 127.8.
-# Of what is asked two are missed by less than half: a stack of 65,536 cells (80), whose words are made, looked up and printed one by
-# one, and the ring (2,700). `make 200` is asked for at 15.
+# Above what is asked for: a stack of 65,536 cells (80), whose words are made, looked up and printed one by one, the ring (2,700), and
+# `make 200` (15).
 set -euo pipefail
 top=$(cd "$(dirname "$0")/.." && pwd)
 work=$(mktemp -d)
